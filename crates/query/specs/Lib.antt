@@ -1,0 +1,3 @@
+pub mod Cast
+pub mod Clip
+pub mod Box

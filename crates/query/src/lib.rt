@@ -1,0 +1,6 @@
+// Rays, boxes and the casting interface.
+pub mod aabb;
+pub mod clip_aabb_line;
+pub mod feature_id;
+pub mod ray;
+pub mod ray_aabb;
