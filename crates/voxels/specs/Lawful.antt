@@ -1,0 +1,39 @@
+-- What a chunk, a grid point and a table may hold.
+use mathlib.Core.Path.{_≡_}
+use mathlib.Core.Bool.{Bool, true, cond, _&&_}
+use mathlib.Core.List.{List}
+use Prim.Native.Nat.{ℕ, _≤_}
+use lib.Dec.{T, leb}
+use lib.IntN.{ℤ, pos, negsuc}
+use lib.ListN.{length, getD}
+use lib.Signed.{leZ}
+use lib.Ieee.{Float, lt, le}
+use Rattle.scalar.specs.Single.{zero, largest}
+use Rattle.math.specs.declared.IVector.{IVector}
+use Rattle.math.specs.declared.Vector.{Vector}
+use Rattle.std.specs.declared.option.Option.{Option}
+use Rattle.std.specs.declared.option.Option.the-variants.{None, Some}
+
+-- 512 kinds, each 0 or 1
+abbrev pub Kinds : List ℕ → Type 0
+Kinds cells = (length cells ≡ 512) × ((n : ℕ) → getD cells n 0 ≤ 1)
+
+abbrev pub between : ℤ → ℤ → ℤ → Bool
+between least most z = leZ least z && leZ z most
+
+-- the size of a room's cells is 2^e metres, e from -10 to 10; a chunk alone has no e
+abbrev pub exponentFits : Option ℤ → Bool
+exponentFits None = true
+exponentFits (Some e) = between (negsuc 9) (pos 10) e
+
+abbrev pub keyFits : ℤ → Bool
+keyFits k = between (negsuc 4095) (pos 4096) k
+
+-- finite and above zero
+abbrev pub sizeFits : Float → Bool
+sizeFits s = lt zero s && le s largest
+
+abbrev pub chunkFits : IVector → Vector → ℕ → Bool
+chunkFits key size id =
+    keyFits (key .x) && (keyFits (key .y) && (keyFits (key .z)
+    && (leb id 8388607 && (sizeFits (size .x) && (sizeFits (size .y) && sizeFits (size .z))))))

@@ -1,0 +1,4 @@
+pub mod Refusals
+pub mod Store
+pub mod Table
+pub mod Lawful

@@ -1,0 +1,4 @@
+// Scanned cells: the stores that hold them, the chunk that casts rays through them, and sight lines between grid points.
+pub mod cell_store;
+pub mod refusal;
+pub mod table_store;
