@@ -13,6 +13,10 @@ use Rattle.math.specs.declared.IVector.{IVector}
 use Rattle.math.specs.declared.Vector.{Vector}
 use Rattle.std.specs.declared.option.Option.{Option}
 use Rattle.std.specs.declared.option.Option.the-variants.{None, Some}
+use Rattle.std.specs.declared.result.Result.{Result}
+use Rattle.std.specs.declared.result.Result.the-variants.{Ok, Err}
+use Rattle.voxels.specs.declared.refusal.Refusal.{Refusal}
+use Rattle.voxels.specs.declared.refusal.Refusal.the-variants.{BadMaking}
 
 -- 512 kinds, each 0 or 1
 abbrev pub Kinds : List ℕ → Type 0
@@ -33,7 +37,15 @@ keyFits k = between (negsuc 4095) (pos 4096) k
 abbrev pub sizeFits : Float → Bool
 sizeFits s = lt zero s && le s largest
 
+abbrev pub keysFit : IVector → Bool
+keysFit key = keyFits (key .x) && (keyFits (key .y) && keyFits (key .z))
+
+abbrev pub sizesFit : Vector → Bool
+sizesFit size = sizeFits (size .x) && (sizeFits (size .y) && sizeFits (size .z))
+
 abbrev pub chunkFits : IVector → Vector → ℕ → Bool
-chunkFits key size id =
-    keyFits (key .x) && (keyFits (key .y) && (keyFits (key .z)
-    && (leb id 8388607 && (sizeFits (size .x) && (sizeFits (size .y) && sizeFits (size .z))))))
+chunkFits key size id = keysFit key && (leb id 8388607 && sizesFit size)
+
+-- ---- the test before a making
+abbrev pub makingAnswer : Bool → Result (Unit {0}) Refusal
+makingAnswer fits = cond fits (Ok tt) (Err BadMaking)

@@ -2,3 +2,5 @@ pub mod Refusals
 pub mod Store
 pub mod Table
 pub mod Lawful
+pub mod Frame
+pub mod Chunk

@@ -1,4 +1,8 @@
 // Scanned cells: the stores that hold them, the chunk that casts rays through them, and sight lines between grid points.
 pub mod cell_store;
+pub mod chunk_cast;
+pub mod frame;
+pub mod geometry;
 pub mod refusal;
 pub mod table_store;
+pub mod voxel_key;
