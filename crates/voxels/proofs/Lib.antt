@@ -1,3 +1,4 @@
 pub mod Counts
 pub mod Table
 pub mod Making
+pub mod Bounds

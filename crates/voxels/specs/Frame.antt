@@ -10,6 +10,7 @@ use Rattle.scalar.specs.Single.{plus, times, over, half, two}
 use Rattle.math.specs.declared.Vector.{Vector}
 use Rattle.math.specs.Vectors.{vector, floor, toI32}
 use Rattle.query.specs.declared.aabb.Aabb.{Aabb}
+use Rattle.query.specs.Cast.{andThen}
 use Rattle.query.specs.Box.{aroundCentre}
 use Rattle.std.specs.declared.option.Option.{Option}
 use Rattle.std.specs.declared.option.Option.the-variants.{None, Some}
@@ -69,3 +70,7 @@ cellNumber k = cond (ltb (k .x) 8 && (ltb (k .y) 8 && ltb (k .z) 8)) (Some (k .x
 
 abbrev pub flatId : ChunkFrame → ℕ → ℕ
 flatId f n = f .id * 512 + n
+
+-- the number of a cell among those of all chunks
+abbrev pub flatIdAt : ChunkFrame → VoxelKey → Option ℕ
+flatIdAt f k = andThen (cellNumber k) (λ n. Some (flatId f n))

@@ -6,7 +6,7 @@ use query::aabb::Aabb;
 ghost use mathlib.Core.Path.{_≡_};
 ghost use lib.IntN.{pos, negsuc};
 ghost use lib.Signed.{_≤ℤ_};
-ghost use Rattle.voxels.specs.Frame.{keyFloat, corner, chunkBox, cellBox, nearestPlace, placeOf, keyOf, cellNumber};
+ghost use Rattle.voxels.specs.Frame.{keyFloat, corner, chunkBox, cellCentre, cellBox, nearestPlace, placeOf, keyOf, cellNumber, flatIdAt};
 
 pub const VOXELS_PER_CHUNK_DIM: u8 = 8;
 
@@ -48,5 +48,63 @@ pub fn cell_number(key: VoxelKey) -> Option<u16>
         Some(key.x as u16 + 8 * key.y as u16 + 64 * key.z as u16)
     } else {
         None
+    }
+}
+
+impl ChunkFrame {
+    // The corner of the chunk's grid that many cells above its lowest one.
+    fn corner(&self, place: u8) -> Vector
+        ensures { λ r. ⌜ r ≡ corner (now (self .entry)) place ⌝ }
+    {
+        Vector {
+            x: key_to_float(self.key.x, place) * self.voxel_size.x,
+            y: key_to_float(self.key.y, place) * self.voxel_size.y,
+            z: key_to_float(self.key.z, place) * self.voxel_size.z,
+        }
+    }
+
+    // The box of the whole chunk.
+    pub fn local_aabb(&self) -> Aabb
+        ensures { λ r. ⌜ r ≡ chunkBox (now (self .entry)) ⌝ }
+    {
+        Aabb { mins: self.corner(0), maxs: self.corner(VOXELS_PER_CHUNK_DIM) }
+    }
+
+    pub fn voxel_center(&self, key: VoxelKey) -> Vector
+        ensures { λ r. ⌜ r ≡ cellCentre (now (self .entry)) key ⌝ }
+    {
+        Vector {
+            x: (key_to_float(self.key.x, key.x) + 0.5) * self.voxel_size.x,
+            y: (key_to_float(self.key.y, key.y) + 0.5) * self.voxel_size.y,
+            z: (key_to_float(self.key.z, key.z) + 0.5) * self.voxel_size.z,
+        }
+    }
+
+    // The box of the cell at a key, also of a key outside the chunk.
+    pub fn voxel_aabb(&self, key: VoxelKey) -> Aabb
+        ensures { λ r. ⌜ r ≡ cellBox (now (self .entry)) key ⌝ }
+    {
+        let size = self.voxel_size;
+        let half_extents = Vector { x: size.x / 2.0, y: size.y / 2.0, z: size.z / 2.0 };
+        Aabb::from_half_extents(self.voxel_center(key), half_extents)
+    }
+
+    // The key of the cell that holds a point, brought to the nearest place from 0 to 8 on each axis.
+    pub fn voxel_at_point(&self, point: Vector) -> VoxelKey
+        ensures { λ r. ⌜ r ≡ keyOf (now (self .entry)) point ⌝ }
+    {
+        VoxelKey {
+            x: place_of(self.key.x, point.x, self.voxel_size.x),
+            y: place_of(self.key.y, point.y, self.voxel_size.y),
+            z: place_of(self.key.z, point.z, self.voxel_size.z),
+        }
+    }
+
+    // The number of the cell at a key among those of all chunks: id * 512 + its number; none outside the chunk.
+    pub fn flat_id(&self, key: VoxelKey) -> Option<u32>
+        ensures { λ r. ⌜ r ≡ flatIdAt (now (self .entry)) key ⌝ }
+    {
+        let number = cell_number(key)?;
+        Some(self.id * 512 + number as u32)
     }
 }
