@@ -74,3 +74,7 @@ flatId f n = f .id * 512 + n
 -- the number of a cell among those of all chunks
 abbrev pub flatIdAt : ChunkFrame → VoxelKey → Option ℕ
 flatIdAt f k = andThen (cellNumber k) (λ n. Some (flatId f n))
+
+-- the kind of the cell at a key
+abbrev pub kindAt : (ℕ → ℕ) → VoxelKey → Option ℕ
+kindAt kinds k = andThen (cellNumber k) (λ n. Some (kinds n))

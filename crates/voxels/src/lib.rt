@@ -1,8 +1,11 @@
 // Scanned cells: the stores that hold them, the chunk that casts rays through them, and sight lines between grid points.
 pub mod cell_store;
+pub mod chunk;
 pub mod chunk_cast;
 pub mod frame;
 pub mod geometry;
+pub mod ray_chunk;
 pub mod refusal;
+pub mod steps;
 pub mod table_store;
 pub mod voxel_key;
