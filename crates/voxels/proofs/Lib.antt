@@ -2,3 +2,4 @@ pub mod Counts
 pub mod Table
 pub mod Making
 pub mod Bounds
+pub mod Walk

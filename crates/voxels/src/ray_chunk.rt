@@ -51,4 +51,46 @@ impl<S: CellStore> Chunk<S> {
             None => step_from(key, &aabb, ray, limit),
         }
     }
+
+    // The walk from a key on.
+    fn walk_from(&self, first: VoxelKey, ray: &Ray, limit: f32, solid: bool) -> ChunkCast
+        requires { ⌜ first .x ≤ 8 ⌝ ∗ ⌜ first .y ≤ 8 ⌝ ∗ ⌜ first .z ≤ 8 ⌝ }
+        ensures { λ r. ⌜ r ≡ walk (turnAt (now (self .entry) .frame) (S·CellStore .kinds (now (self .entry) .cells)) (now (ray .entry)) limit solid) 25 first ⌝ }
+    {
+        let mut key = first;
+        let mut visited = 0;
+        loop {
+            visited += 1;
+            match self.turn_at(key, ray, limit, solid) {
+                Turn::Hit(hit) => return ChunkCast { hit: Some(hit), visited },
+                Turn::Stop => return ChunkCast { hit: None, visited },
+                Turn::Step(next) => key = next,
+            }
+        }
+    }
+
+    // The first filled cell whose box the ray hits within the reach, and the number of keys that the walk stood on.
+    // The hit's feature is the face id * 512 + cell number.
+    pub fn cast_ray(&self, ray: &Ray, max_time_of_impact: f32, solid: bool) -> ChunkCast
+        ensures value { λ r. ⌜ r ≡ chunkCast (now (self .entry) .frame) (S·CellStore .kinds (now (self .entry) .cells)) (now (ray .entry)) «max_time_of_impact» solid ⌝ }
+        ensures few { λ r. ⌜ r .visited ≤ 25 ⌝ }
+    {
+        let Some((start, end)) = self.frame.local_aabb().clip_ray_parameters(ray) else {
+            return ChunkCast { hit: None, visited: 0 };
+        };
+        if start > max_time_of_impact {
+            return ChunkCast { hit: None, visited: 0 };
+        }
+        let limit = end.min(max_time_of_impact);
+        let first = self.frame.voxel_at_point(ray.point_at(start));
+        self.walk_from(first, ray, limit, solid)
+    }
+}
+
+pub impl<S: CellStore> RayCast for Chunk<S> as ChunkRayCast {
+    ghost casts = { λ c r reach solid. chunkCast (c .frame) (S·CellStore .kinds (c .cells)) r reach solid .hit };
+
+    fn cast_local_ray_and_get_normal(&self, ray: &Ray, max_time_of_impact: f32, solid: bool) -> Option<RayIntersection> {
+        self.cast_ray(ray, max_time_of_impact, solid).hit
+    }
 }
