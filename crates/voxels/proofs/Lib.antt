@@ -3,3 +3,4 @@ pub mod Table
 pub mod Making
 pub mod Bounds
 pub mod Walk
+pub mod Laws
