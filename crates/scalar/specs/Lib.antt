@@ -1,1 +1,3 @@
+pub mod Root
+pub mod Scaled
 pub mod Single
