@@ -1,58 +1,26 @@
 -- The test that certifies an estimate of a root: where s * s - s < n ≤ s * s + s, no other value is as near to the root of n as s, so s gives std's root.
-use mathlib.Core.Path.{_≡_, refl, sym, ap, _∙_, subst, subst⁻¹}
-use mathlib.Core.Logic.{_⊎_, inl, inr}
-use mathlib.Core.Bool.{Bool, true, false, cond, _||_, true≢false}
+use mathlib.Core.Path.{_≡_, refl, sym, ap, _∙_, subst}
+use mathlib.Core.Logic.{inl, inr}
+use mathlib.Core.Bool.{true, false, _||_, true≢false}
 use Prim.Native.Nat.{ℕ, zero, suc, _+_, _-_, _*_, _/_, _%_, _^_, _≤_, _<_}
-use native.Mathlib.Nat.{le-trans, mul-assoc, mul-le-mul, mul-le-mul-left, mul-le-mul-right, mul-pos, mul-div-cancel, lt-of-mul-lt-mul-right}
+use native.Mathlib.Nat.{le-trans, mul-assoc, mul-le-mul, mul-le-mul-left, mul-le-mul-right, mul-pos, lt-of-mul-lt-mul-right}
 use native.Mathlib.Omega.{arith}
 use lib.IntN.{ℤ}
-use lib.Dec.{T, leb, eqb, eqb→eq}
+use lib.Dec.{T, eqb, eqb→eq}
 use lib.Pow.{pow-add, pow-pos}
-use lib.Ieee.{Float, nan, inf, fin, binary32, up, down, size, fits, toBits, ofBits, ofFields, odd, le, lt, eq, isNan}
+use lib.Ieee.{Float, nan, inf, fin, binary32, up, down, fits, toBits, ofBits, odd, le}
 use lib.Ieee.Fits.{up-pos, down-pos, round-fits, and-l}
 use lib.Ieee.Order.{le-of-values}
 use lib.Ieee.Bits.{ofBits-toBits, ofBits-fits}
-use lib.Ieee.Exact.{HasValue, odd-sign}
-use Rattle.std.proofs.shelf.Tests.{cases-lt, cases-eq, cases-order, lt-leb, ne-eqb}
+use lib.Ieee.Exact.{HasValue}
+use Rattle.std.proofs.shelf.Tests.{cases-lt, cases-eq, cases-order}
 use Rattle.std.specs.Floats.{rootTwice, sqrt}
 use Rattle.scalar.specs.Root.{NearestRoot}
 use Rattle.scalar.specs.Scaled.{Scaled}
 use Rattle.scalar.specs.Single.{zero as nought, NotBelowZero}
 use Rattle.scalar.proofs.Rounding.{multiple}
 use Rattle.scalar.proofs.NearestRoot.{Digits, value-digits, root-nearest}
-
--- ---- a value that is not negative is determined by its number of units
-bits-of-units : (x : Float) (q : ℕ) → HasValue x false q (2 ^ 149) → toBits binary32 x ≡ 0 + (size q - 24) * 2 ^ 23 + q / 2 ^ (size q - 24)
-unfolding toBits
-bits-of-units nan q v = absurd v
-bits-of-units (inf s) q v = absurd v
-bits-of-units (fin true m e) q v = absurd (true≢false (v .0))
-bits-of-units (fin false m e) q v =
-    ap (λ (n : ℕ). 0 + (size n - 24) * 2 ^ 23 + n / 2 ^ (size n - 24)) (ap (λ (z : ℕ). z / down e) (v .1) ∙ mul-div-cancel q (down-pos e))
-
-pub same-units : (x y : Float) (q : ℕ) → T (fits binary32 x) → T (fits binary32 y) → HasValue x false q (2 ^ 149) → HasValue y false q (2 ^ 149) → x ≡ y
-same-units x y q f g v w =
-    sym (ofBits-toBits binary32 x f) ∙ ap (λ (b : ℕ). ofBits binary32 b) (bits-of-units x q v ∙ sym (bits-of-units y q w)) ∙ ofBits-toBits binary32 y g
-
--- ---- the units of a normal value, by its pattern: the exponent's field suc x and the digits t below the leading one
-fields-value : (s : Bool) (x t : ℕ) → s ≡ false → suc x < 255 → HasValue (ofFields binary32 s (suc x) t) false ((2 ^ 23 + t) * 2 ^ x) (2 ^ 149)
-unfolding ofFields
-fields-value true x t e l = absurd (true≢false e)
-fields-value false x t e l =
-    subst⁻¹ (λ (b : Bool). HasValue (cond b (cond (eqb t 0) (inf false) nan) (odd 24 false (2 ^ 23 + t) x 149)) false ((2 ^ 23 + t) * 2 ^ x) (2 ^ 149))
-    (ne-eqb (suc x) 255 (λ (e : suc x ≡ 255). omega arith))
-    (odd-sign 24 false (2 ^ 23 + t) x 149)
-
-pub pattern-value : (x t : ℕ) → suc x < 255 → t < 2 ^ 23 → HasValue (ofBits binary32 (suc x * 2 ^ 23 + t)) false ((2 ^ 23 + t) * 2 ^ x) (2 ^ 149)
-unfolding ofBits
-pattern-value x t l h =
-    let b = suc x * 2 ^ 23 + t in
-    let field : b % 2 ^ 31 / 2 ^ 23 ≡ suc x = omega arith in
-    let digits : b % 2 ^ 23 ≡ t = omega arith in
-    let sign : leb (2 ^ 31) b ≡ false = lt-leb (2 ^ 31) b (omega arith) in
-    subst⁻¹ (λ (z : ℕ). HasValue (ofFields binary32 (leb (2 ^ 31) b) (b % 2 ^ 31 / 2 ^ 23) z) false ((2 ^ 23 + t) * 2 ^ x) (2 ^ 149)) digits
-    (subst⁻¹ (λ (z : ℕ). HasValue (ofFields binary32 (leb (2 ^ 31) b) z t) false ((2 ^ 23 + t) * 2 ^ x) (2 ^ 149)) field
-    (fields-value (leb (2 ^ 31) b) x t sign l))
+use Rattle.scalar.proofs.Values.{same-units, pattern-value}
 
 -- ---- the test. V is 2 ^ k, s * V the units that the estimate gives, u those of the nearest root; the sum u + s * V is twice their middle
 module _ (n V c w z : ℕ) where
