@@ -2,7 +2,7 @@
 use mathlib.Core.Path.{_≡_, refl, sym, ap, _∙_, subst}
 use mathlib.Core.Logic.{inl, inr}
 use mathlib.Core.Bool.{true, false, _||_, true≢false}
-use Prim.Native.Nat.{ℕ, zero, suc, _+_, _-_, _*_, _/_, _%_, _^_, _≤_, _<_}
+use Prim.Native.Nat.{ℕ, suc, _+_, _-_, _*_, _/_, _%_, _^_, _≤_, _<_}
 use native.Mathlib.Nat.{le-trans, mul-assoc, mul-le-mul, mul-le-mul-left, mul-le-mul-right, mul-pos, lt-of-mul-lt-mul-right}
 use native.Mathlib.Omega.{arith}
 use lib.IntN.{ℤ}
@@ -17,7 +17,7 @@ use Rattle.std.proofs.shelf.Tests.{cases-lt, cases-eq, cases-order}
 use Rattle.std.specs.Floats.{rootTwice, sqrt}
 use Rattle.scalar.specs.Root.{NearestRoot}
 use Rattle.scalar.specs.Scaled.{Scaled}
-use Rattle.scalar.specs.Single.{zero as nought, NotBelowZero}
+use Rattle.scalar.specs.Single.{zero, NotBelowZero}
 use Rattle.scalar.proofs.Rounding.{multiple}
 use Rattle.scalar.proofs.NearestRoot.{Digits, value-digits, root-nearest}
 use Rattle.scalar.proofs.Values.{same-units, pattern-value}
@@ -108,7 +108,7 @@ pub estimate-is-root : (x : Float) (n k s : ℕ) → T (fits binary32 x) → Sca
 estimate-is-root nan n k s f h l u under over = absurd (h .value)
 estimate-is-root (inf t) n k s f h l u under over = absurd (h .value)
 estimate-is-root (fin true m e) n k s f h l u under over = absurd (true≢false (h .value .0))
-estimate-is-root (fin false zero e) n k s f h l u under over =
+estimate-is-root (fin false ℕ.zero e) n k s f h l u under over =
     absurd (none (n * 2 ^ (k + k) * down e) (mul-pos (mul-pos (le-trans (omega arith) (h .least)) (pow-pos (k + k))) (down-pos e)) (sym (h .value .1) ∙ omega arith))
   where
     none : (z : ℕ) → 0 < z → z ≡ 0 → ⊥
@@ -166,10 +166,10 @@ unfolding sqrt le ofBits
 root-not-below-zero nan f h = absurd h
 root-not-below-zero (inf false) f h = tt
 root-not-below-zero (inf true) f h = absurd h
-root-not-below-zero (fin s zero e) f h = h
+root-not-below-zero (fin s ℕ.zero e) f h = h
 root-not-below-zero (fin true (suc m) e) f h =
     let none : 0 * 1 * down e ≡ suc m * up e * 1 = eqb→eq (0 * 1 * down e) (suc m * up e * 1) (and-l _ (false || eqb (0 * 1 * down e) 0) h) in
     absurd (omega (arith, mul-pos {m = suc m} (omega arith) (up-pos e)))
 root-not-below-zero (fin false (suc m) e) f h =
     let r = root-nearest m e f in
-    le-of-values nought (sqrt binary32 (fin false (suc m) e)) 0 1 (r .units) (2 ^ 149) (omega arith) (pow-pos 149) (refl, refl) (r .value) (omega arith)
+    le-of-values zero (sqrt binary32 (fin false (suc m) e)) 0 1 (r .units) (2 ^ 149) (omega arith) (pow-pos 149) (refl, refl) (r .value) (omega arith)
