@@ -1,7 +1,7 @@
 -- The order of floats. A NaN compares with nothing; the other values, infinities among them, are in one line, where -0 and +0 stand at one place.
 use mathlib.Core.Path.{_≡_, refl, sym, ap, _∙_, subst, subst⁻¹}
 use mathlib.Core.Logic.{_⊎_, inl, inr}
-use mathlib.Core.Bool.{Bool, true, false, not, _&&_, _||_, cond}
+use mathlib.Core.Bool.{Bool, true, false, not, _||_}
 use Prim.Native.Nat.{ℕ, _+_, _*_, _≤_, _<_}
 use native.Mathlib.Nat.{mul-le-mul-right, le-of-mul-le-mul-right}
 use native.Mathlib.Omega.{arith}
@@ -9,7 +9,7 @@ use lib.IntN.{ℤ}
 use lib.Dec.{T, ltb, leb, leb→le, le→leb, T-not, not-T}
 use Rattle.std.proofs.shelf.Ways.{tells}
 use Rattle.std.proofs.shelf.Tests.{cases-bool, cond-both, cases-cond, or-parts, or-cases}
-use lib.Ieee.{Float, nan, inf, fin, up, down, below, level, lt, le, eq, isNan, binary32, ofBits}
+use lib.Ieee.{Float, nan, inf, fin, up, down, below, level, lt, le, eq, isNan, ofBits}
 use lib.Ieee.Fits.{down-pos}
 use Rattle.std.specs.Floats.{least, most}
 use Rattle.scalar.specs.Single.{zero, Number, NotBelowZero}

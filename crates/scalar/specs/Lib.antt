@@ -1,1 +1,4 @@
+pub mod Grid
+pub mod Root
+pub mod Scaled
 pub mod Single
