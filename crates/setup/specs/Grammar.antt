@@ -34,6 +34,10 @@ abbrev pub pieces : (ℕ → Bool) → List ℕ → List (List ℕ)
 pieces p [] = []
 pieces p (c ∷ cs) = cond (p c) ([] ∷ pieces p cs) (before c (pieces p cs))
 
+-- what does not pass p
+abbrev pub other : (ℕ → Bool) → ℕ → Bool
+other p c = not (p c)
+
 abbrev pub newline : ℕ → Bool
 newline c = eqb c 10
 
@@ -52,10 +56,13 @@ lines text = pieces newline text
 unfoldable pub words : List ℕ → List (List ℕ)
 words line = kept-by filled (pieces blank line)
 
+abbrev pub hash : ℕ → Bool
+hash c = eqb c 35
+
 -- the bytes before a '#'
 abbrev pub uncommented : List ℕ → List ℕ
 uncommented [] = []
-uncommented (c ∷ cs) = cond (eqb c 35) [] (c ∷ uncommented cs)
+uncommented (c ∷ cs) = cond (hash c) [] (c ∷ uncommented cs)
 
 -- ---- numbers
 

@@ -1,9 +1,12 @@
 // Reads the lines of a setup file into statements.
 ghost use mathlib.Core.Path.{_≡_};
 ghost use Rattle.setup.specs.Grammar.{count};
+mod scan;
+
 use math::IVector;
 use math::IVectorDebug;
 use math::IVectorPartialEq;
+pub use scan::split_line;
 
 // What a line asks for.
 #[derive(Clone, Copy, PartialEq, Debug)]
