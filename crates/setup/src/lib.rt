@@ -1,6 +1,7 @@
 // Reads the lines of a setup file into statements.
 ghost use mathlib.Core.Path.{_≡_};
 ghost use Rattle.setup.specs.Grammar.{count};
+mod number;
 mod scan;
 
 use math::IVector;
