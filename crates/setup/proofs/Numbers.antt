@@ -1,21 +1,23 @@
 -- The digits of a number read one by one, and the sign before them.
 use mathlib.Core.Path.{_≡_, refl, sym, ap, _∙_}
 use mathlib.Core.Bool.{Bool, true, false, cond, _&&_}
-use mathlib.Core.List.{List, [], _∷_}
+use mathlib.Core.List.{List, [], _∷_, _++_, append-assoc}
 use Prim.Native.Nat.{ℕ, suc, _+_, _-_, _*_, _^_, _≤_, _<_}
 use native.Mathlib.Nat.{pow-suc, pow-le-pow-right}
 use native.Mathlib.Numerals.{add-one}
 use native.Mathlib.Omega.{arith}
 use lib.Dec.{eqb, ltb, leb}
 use lib.IntN.{ℤ, pos, negℤ}
-use lib.ListN.{length, getD, drop}
+use lib.ListN.{length, getD, take, drop, set, length-set}
 use Rattle.std.specs.declared.option.Option.the-variants.{Some, None}
+use Rattle.std.specs.declared.result.Result.{Result}
+use Rattle.std.specs.declared.result.Result.the-variants.{Ok, Err}
 use Rattle.std.specs.Options.{mapped}
 use Rattle.std.specs.Text.{asciiDigit}
 use Rattle.std.specs.shelf.Text.{allDigits}
-use Rattle.std.proofs.shelf.Lists.{at-drop-more, at-drop-all}
+use Rattle.std.proofs.shelf.Lists.{at-drop-more, at-drop-all, take-more-set}
 use Rattle.std.proofs.shelf.Tests.{cond-true, cond-false, and-from, and-left, and-right, and-parts, lt-ltb, le-ltb, le-leb, lt-leb, leb-true, eq-eqb, ne-eqb}
-use Rattle.setup.specs.Grammar.{readOn, natural, wholeNumber}
+use Rattle.setup.specs.Grammar.{readOn, natural, wholeNumber, wholeNumbers, put}
 
 -- the first i bytes of ds are digits and write n
 pub record Read (ds : List ℕ) (i n : ℕ) : Type 0 where
@@ -76,3 +78,30 @@ pub wholeNumber-plain : (w : List ℕ) → (0 < length w → getD w 0 0 ≡ 45 �
 unfolding wholeNumber natural
 wholeNumber-plain [] f = refl
 wholeNumber-plain (c ∷ cs) f = cond-false _ _ _ (ne-eqb c 45 (f (omega arith)))
+
+-- numbers that stand before those that are still to be read
+abbrev pub after : List ℤ → Result (List ℤ) ℕ → Result (List ℤ) ℕ
+after zs (Ok ys) = Ok (zs ++ ys)
+after zs (Err place) = Err place
+
+-- of all words, the first n write the first n of zs, and the words ws are left
+pub record Gathered (all : List (List ℕ)) (n : ℕ) (zs : List ℤ) (ws : List (List ℕ)) : Type 0 where
+  pub room : length zs ≡ 6
+  pub left : n + length ws ≡ length all
+  pub read : wholeNumbers 1 all ≡ after (take n zs) (wholeNumbers (n + 1) ws)
+
+after-put : (zs : List ℤ) (z : ℤ) (read : Result (List ℤ) ℕ) (place : ℕ) → after zs (put (Some z) read place) ≡ after (zs ++ z ∷ []) read
+after-put zs z (Ok ys) place = ap Ok (sym (append-assoc zs (z ∷ []) ys))
+after-put zs z (Err later) place = refl
+
+pub gathered-more : (all : List (List ℕ)) (n : ℕ) (zs : List ℤ) (ws : List (List ℕ)) (w : List ℕ) (rest : List (List ℕ)) (z : ℤ) → Gathered all n zs ws → ws ≡ w ∷ rest → Some z ≡ wholeNumber w → n < length zs → Gathered all (n + 1) (set zs n z) rest
+gathered-more all n zs ws w rest z so-far cut reads h = record {
+  room = length-set zs n z ∙ so-far .room;
+  left = omega (arith, so-far .left, ap length cut);
+  read =
+      so-far .read
+      ∙ ap (λ l. after (take n zs) (wholeNumbers (n + 1) l)) cut
+      ∙ ap (λ o. after (take n zs) (put o (wholeNumbers (n + 1 + 1) rest) (n + 1))) (sym reads)
+      ∙ after-put (take n zs) z (wholeNumbers (n + 1 + 1) rest) (n + 1)
+      ∙ ap (λ l. after l (wholeNumbers (n + 1 + 1) rest)) (sym (take-more-set zs n z h));
+}

@@ -40,3 +40,23 @@ fn whole_number(word: &[u8]) -> Option<i32>
         Some(value as i32)
     }
 }
+
+// The numbers that the words of the line write, or the place of the first word that writes none,
+// where 1 is the first word.
+pub(crate) fn whole_numbers(line: &[u8]) -> Result<[i32; MOST], u8>
+    requires { ⌜ length (words (now line)) ≤ 6 ⌝ }
+    ensures { λ r. ⌜ elim r [ Ok zs ↦ wholeNumbers 1 (words (now (line .entry))) ≡ Ok (take (length (words (now (line .entry)))) zs) | Err place ↦ wholeNumbers 1 (words (now (line .entry))) ≡ Err place ] ⌝ }
+{
+    let mut numbers = [0; MOST];
+    let mut count = 0;
+    let mut rest = line;
+    while let Some((word, after)) = split_word(rest) {
+        let Some(number) = whole_number(word) else {
+            return Err(count as u8 + 1);
+        };
+        numbers[count] = number;
+        count += 1;
+        rest = after;
+    }
+    Ok(numbers)
+}
