@@ -2,11 +2,13 @@
 ghost use mathlib.Core.Path.{_≡_};
 ghost use Rattle.setup.specs.Grammar.{count};
 mod number;
+mod parse;
 mod scan;
 
 use math::IVector;
 use math::IVectorDebug;
 use math::IVectorPartialEq;
+pub use parse::parse_line;
 pub use scan::split_line;
 
 // What a line asks for.
