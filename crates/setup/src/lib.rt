@@ -1,6 +1,7 @@
 // Reads the lines of a setup file into statements.
 ghost use mathlib.Core.Path.{_≡_};
 ghost use Rattle.setup.specs.Grammar.{count};
+mod display;
 mod number;
 mod parse;
 mod scan;
@@ -8,6 +9,8 @@ mod scan;
 use math::IVector;
 use math::IVectorDebug;
 use math::IVectorPartialEq;
+pub use display::ExpectedDisplay;
+pub use display::KeywordDisplay;
 pub use parse::parse_line;
 pub use scan::split_line;
 
