@@ -4,6 +4,7 @@ ghost use Rattle.setup.specs.Texts.{name, written, wanted};
 use crate::Expected;
 use crate::Keyword;
 use crate::Statement;
+use math::IVector;
 use std::fmt;
 
 pub impl fmt::Display for Keyword as KeywordDisplay {
@@ -31,6 +32,32 @@ pub impl fmt::Display for Expected as ExpectedDisplay {
             }
             Expected::WholeNumber(place) => {
                 write!(f, "expected a whole number of at most nine digits as number {place}")
+            }
+        }
+    }
+}
+
+pub impl fmt::Display for Statement as StatementDisplay {
+    ghost shown = { λ s. Some (written s) };
+
+    fn fmt<W: fmt::Write>(&self, f: &mut fmt::Formatter<W>) -> fmt::Result {
+        match self {
+            Statement::Room { exponent, key, id } => {
+                let IVector { x, y, z } = key;
+                write!(f, "room {exponent} {x} {y} {z} {id}")
+            }
+            Statement::Mark { cell } => {
+                let IVector { x, y, z } = cell;
+                write!(f, "mark {x} {y} {z}")
+            }
+            Statement::Wipe { cell } => {
+                let IVector { x, y, z } = cell;
+                write!(f, "wipe {x} {y} {z}")
+            }
+            Statement::Sight { camera, target } => {
+                let IVector { x, y, z } = camera;
+                let IVector { x: u, y: v, z: w } = target;
+                write!(f, "sight {x} {y} {z} {u} {v} {w}")
             }
         }
     }

@@ -11,6 +11,7 @@ use math::IVectorDebug;
 use math::IVectorPartialEq;
 pub use display::ExpectedDisplay;
 pub use display::KeywordDisplay;
+pub use display::StatementDisplay;
 pub use parse::parse_line;
 pub use scan::split_line;
 
