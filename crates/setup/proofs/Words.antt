@@ -39,7 +39,7 @@ leading-ends p (c ∷ cs) h =
     (λ q. ap (λ i. p (getD (c ∷ cs) i 0)) (cond-false (p c) (1 + leading p cs) 0 q) ∙ q)
     (cases-bool (p c))
 
-words-after-blank : (c : ℕ) (cs : List ℕ) → blank c ≡ true → words (c ∷ cs) ≡ words cs
+pub words-after-blank : (c : ℕ) (cs : List ℕ) → blank c ≡ true → words (c ∷ cs) ≡ words cs
 unfolding words
 words-after-blank c cs q = ap (kept-by filled) (cond-true (blank c) _ _ q)
 

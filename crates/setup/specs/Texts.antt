@@ -1,8 +1,8 @@
 -- What is written of a statement, and of what a line should have had.
 use mathlib.Core.List.{List, [], _∷_, _++_}
-use Prim.Native.Nat.{ℕ}
+use Prim.Native.Nat.{ℕ, _^_, _<_}
 use lib.Chars.{codes}
-use lib.IntN.{ℤ}
+use lib.IntN.{ℤ, natAbs}
 use Rattle.std.specs.Written.{decimal, signed}
 use Rattle.math.specs.declared.IVector.{IVector}
 use Rattle.setup.specs.declared.Statement.{Statement}
@@ -47,3 +47,7 @@ abbrev pub wanted : Expected → List ℕ
 wanted expected.Keyword = codes "expected room, mark, wipe or sight"
 wanted (expected.Numbers k) = codes "expected " ++ (decimal (count k) ++ (codes " numbers after " ++ name k))
 wanted (expected.WholeNumber place) = codes "expected a whole number of at most nine digits as number " ++ decimal place
+
+-- at most nine digits
+abbrev pub Short : ℤ → Type 0
+Short z = natAbs z < 10 ^ 9

@@ -5,6 +5,8 @@ mod display;
 mod number;
 mod parse;
 mod scan;
+#[cfg(test)]
+mod tests;
 
 use math::IVector;
 use math::IVectorDebug;

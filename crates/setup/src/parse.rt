@@ -1,7 +1,9 @@
 // Reads a line into what it says.
 ghost use mathlib.Core.Path.{_≡_};
 ghost use Rattle.std.specs.shelf.Text.{sameBytes};
+ghost use Rattle.std.specs.shelf.Lists.{All};
 ghost use Rattle.setup.specs.Grammar.{keywordOf, stated, lineMeaning};
+ghost use Rattle.setup.specs.Texts.{Short, numbers, written};
 use crate::Expected;
 use crate::Keyword;
 use crate::Line;
@@ -55,9 +57,10 @@ fn statement_of(keyword: Keyword, numbers: [i32; MOST]) -> Statement
     }
 }
 
-// What the line says. The line has no newline in it.
+// What the line says.
 pub fn parse_line(line: &[u8]) -> Line
-    ensures { λ r. ⌜ r ≡ lineMeaning (now (line .entry)) ⌝ }
+    ensures value { λ r. ⌜ r ≡ lineMeaning (now (line .entry)) ⌝ }
+    ensures reads_back { λ r. ⌜ ((s : Statement) → All Short (numbers s) → now (line .entry) ≡ written s → r ≡ Line.Says s) ⌝ }
 {
     let Some((word, rest)) = split_word(without_comment(line)) else {
         return Line::Blank;
