@@ -1,0 +1,5 @@
+pub mod Numbers
+pub mod Pieces
+pub mod ReadsBack
+pub mod Scanning
+pub mod Words
