@@ -4,3 +4,5 @@ pub mod Table
 pub mod Lawful
 pub mod Frame
 pub mod Chunk
+pub mod Power
+pub mod Sight
