@@ -6,3 +6,4 @@ pub mod Frame
 pub mod Chunk
 pub mod Power
 pub mod Sight
+pub mod Cells

@@ -15,12 +15,16 @@ use Rattle.voxels.specs.declared.«chunk_cast».ChunkCast.{ChunkCast}
 use Rattle.voxels.specs.Power.{powerOfTwo}
 use Rattle.voxels.specs.Chunk.{chunkCast}
 
--- (1024 * key + g) * 2^(e - 7) metres
-abbrev pub coordinate : ℤ → ℤ → ℕ → Float
-coordinate e key g = times (ofInt binary32 (place key g)) (powerOfTwo (e -ℤ pos 7))
+-- 1024 * key + g units
+abbrev pub coordinate : Float → ℤ → ℕ → Float
+coordinate unit key g = times (ofInt binary32 (place key g)) unit
 
+abbrev pub gridPosition : Float → IVector → GridPoint → Vector
+gridPosition unit key p = vector (coordinate unit (key .x) (p .x)) (coordinate unit (key .y) (p .y)) (coordinate unit (key .z) (p .z))
+
+-- in metres, with a unit of 1/128 cell
 abbrev pub position : ℤ → IVector → GridPoint → Vector
-position e key p = vector (coordinate e (key .x) (p .x)) (coordinate e (key .y) (p .y)) (coordinate e (key .z) (p .z))
+position e key p = gridPosition (powerOfTwo (e -ℤ pos 7)) key p
 
 -- from camera to target, which it reaches at time 1
 abbrev pub sightLine : ℤ → IVector → GridPoint → GridPoint → Ray

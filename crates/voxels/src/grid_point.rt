@@ -12,9 +12,9 @@ ghost use Rattle.voxels.specs.Lawful.{unitFits, gridFits};
 // Three whole numbers from 0 to 1023, in units of 1/128 cell from the chunk's lowest corner. No point exists outside that.
 #[derive(Clone, Copy)]
 pub struct GridPoint {
-    x: u16,
-    y: u16,
-    z: u16,
+    pub(crate) x: u16,
+    pub(crate) y: u16,
+    pub(crate) z: u16,
     ghost ok: { (x ≤ 1023) × ((y ≤ 1023) × (z ≤ 1023)) },
 }
 

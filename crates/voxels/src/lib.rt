@@ -2,9 +2,11 @@
 pub mod cell_store;
 pub mod chunk;
 pub mod chunk_cast;
+pub mod edit;
 pub mod frame;
 pub mod geometry;
 pub mod grid_point;
+pub mod look;
 pub mod ray_chunk;
 pub mod refusal;
 pub mod scan;

@@ -19,14 +19,14 @@ ghost use Rattle.voxels.specs.Power.{powerOfTwo, cube};
 
 #[derive(Drop)]
 pub struct Scan<S> {
-    exponent: i32,
-    chunk: Chunk<S>,
+    pub(crate) exponent: i32,
+    pub(crate) chunk: Chunk<S>,
     ghost range: { T (exponentFits (Some exponent)) },
     ghost cubes: { ∥ chunk .frame .«voxel_size» ≡ cube exponent ∥₁ },
 }
 
 // 2^e, by its bits.
-fn power_of_two(e: i32) -> f32
+pub(crate) fn power_of_two(e: i32) -> f32
     requires { ⌜ negsuc 19 ≤ℤ e ⌝ ∗ ⌜ e ≤ℤ pos 10 ⌝ }
     ensures { λ r. ⌜ r ≡ powerOfTwo e ⌝ }
 {
