@@ -6,14 +6,16 @@ use mathlib.Core.Bool.{Bool, true, false, not, _&&_, _||_, cond, Bool·beq, true
 use Prim.Native.Nat.{ℕ, suc, _+_, _-_, _*_, _/_, _%_, _^_, _≤_, _<_}
 use native.Mathlib.Nat.{eq-zero-or-pos, eq-of-mul-eq-mul-right, mul-right-comm, mul-mul-mul-comm, mul-pos, mul-div-cancel, mul-le-mul-right, mul-lt-mul-of-pos-right, le-of-mul-le-mul-right, lt-of-mul-lt-mul-right, mul-comm, mul-sub}
 use native.Mathlib.Omega.{arith}
-use lib.Dec.{T, ltb, eqb, leb, eqb→eq}
+use lib.Dec.{T, ltb, eqb, leb, eqb→eq, lt→ltb}
 use lib.Ieee.{Float, nan, inf, fin, binary32, up, down, unlike, size, round, sum, neg, add, sub, mul, div, below, level, lt, le, eq, fits, isNan, toBits, ofBits, ofFields, odd}
 use lib.Ieee.Fits.{down-pos, and-l}
 use lib.Ieee.Bits.{ofBits-toBits}
 use lib.Ieee.Exact.{HasValue, odd-sign}
+use lib.Ieee.Order.{le-of-values}
 use lib.Ieee.Scale.{round-same}
 use Rattle.std.proofs.shelf.Tests.{cases-lt, cases-eq, lt-ltb, le-ltb, lt-leb, ne-eqb, eq-eqb}
 use Rattle.scalar.specs.Single.{plus, minus, times, over, zero, half, one, two, largest, Number}
+use Rattle.scalar.proofs.Order.{le-of-not-lt, zero-number}
 
 pub value-number : (x : Float) (s : Bool) (a c : ℕ) → HasValue x s a c → Number x
 unfolding isNan
@@ -237,3 +239,28 @@ eq-is (fin s' m e) (fin t' n g) s t a b c C u v =
 pub le-is : (x y : Float) (s t : Bool) (a b c : ℕ) → 0 < c → HasValue x s a c → HasValue y t b c → le x y ≡ below s a t b || level s a t b
 unfolding le
 le-is x y s t a b c C u v = ap (λ (z : Bool). z || eq x y) (lt-is x y s t a b c C u v) ∙ ap (λ (z : Bool). below s a t b || z) (eq-is x y s t a b c C u v)
+
+-- a number that is not negative is above every one that is smaller or negative
+pub lt-of-values : (x y : Float) (s : Bool) (a c b d : ℕ) → 0 < c → 0 < d → HasValue x s a c → HasValue y false b d → a * d < b * c → T (lt x y)
+lt-of-values x y s a c b d C D u v h =
+    subst⁻¹ T (lt-is x y s false (a * d) (b * c) (c * d) (mul-pos C D) (value-as x s a c (a * d) (c * d) C (omega arith) u) (value-as y false b d (b * c) (c * d) D (omega arith) v)) (by-sign s)
+  where
+    by-sign : (s : Bool) → T (below s (a * d) false (b * c))
+    by-sign false = lt→ltb (a * d) (b * c) h
+    by-sign true = lt→ltb 0 (a * d + b * c) (omega arith)
+
+-- ---- against zero
+pub zero-le-value : (x : Float) (a c : ℕ) → 0 < c → HasValue x false a c → T (le zero x)
+zero-le-value x a c C u = le-of-values zero x 0 1 a c (omega arith) C zero-value u (omega arith)
+
+pub zero-lt-value : (x : Float) (a c : ℕ) → 0 < c → 0 < a → HasValue x false a c → T (lt zero x)
+zero-lt-value x a c C P u = lt-of-values zero x false 0 1 a c (omega arith) C zero-value u (omega arith)
+
+zero-over : (c : ℕ) → HasValue zero false 0 c
+zero-over c = value-as zero false 0 1 0 c (omega arith) (omega arith) zero-value
+
+pub value-le-zero : (x : Float) (a c : ℕ) → 0 < c → HasValue x true a c → T (le x zero)
+value-le-zero x a c C u = le-of-not-lt zero x zero-number (value-number x true a c u) (subst⁻¹ (λ (b : Bool). T (not b)) (lt-is zero x false true 0 a c C (zero-over c) u) tt)
+
+pub value-lt-zero : (x : Float) (a c : ℕ) → 0 < c → 0 < a → HasValue x true a c → T (lt x zero)
+value-lt-zero x a c C P u = subst⁻¹ T (lt-is x zero true false a 0 c C u (zero-over c)) (lt→ltb 0 (a + 0) (omega arith))

@@ -4,9 +4,10 @@ ghost use Rattle.scalar.specs.Root.{RootOf};
 ghost use Rattle.scalar.specs.Scaled.{Scaled};
 ghost use Rattle.scalar.specs.Single.{NotBelowZero, root};
 
-// The bits of the smallest normal value and of infinity. A normal value's are those between.
+// The bits of the smallest normal value.
 const SMALLEST_NORMAL: u32 = 0x80_0000;
 
+// The bits of infinity, which follow those of the largest value.
 const INFINITY: u32 = 0x7f80_0000;
 
 // The square root, correctly rounded: the value of f32 that is nearest to the exact root.
@@ -19,7 +20,7 @@ pub fn sqrt(x: f32) -> f32
     root_by_estimate(x)
 }
 
-// A normal value has its root from an estimate, which is many times faster than std's; any other value from std.
+// A normal value has its root from an estimate that is tested, for speed; any other value has it from std.
 fn root_by_estimate(x: f32) -> f32
     ensures { λ r. ⌜ r ≡ root x ⌝ }
 {
