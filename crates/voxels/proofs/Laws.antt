@@ -1,7 +1,7 @@
 -- The two laws of a chunk's cast, over every store.
 use mathlib.Core.Path.{_≡_, refl, sym, ap, _∙_, subst}
 use mathlib.Core.Bool.{Bool, true, false, not, cond, _&&_}
-use Prim.Native.Nat.{ℕ, zero, suc}
+use Prim.Native.Nat.{ℕ, zero, suc, _<_}
 use lib.Dec.{T}
 use native.Mathlib.Omega.{arith}
 use lib.Ieee.{Float, lt, le}
@@ -30,7 +30,8 @@ use Rattle.voxels.specs.declared.«chunk_cast».ChunkCast.{ChunkCast}
 use Rattle.voxels.specs.declared.«chunk_cast».Turn.{Turn}
 use Rattle.voxels.specs.declared.«chunk_cast».Turn.the-variants.{Hit, Stop, Step}
 use Rattle.voxels.specs.Frame.{chunkBox, cellBox, cellNumber, flatId, keyOf}
-use Rattle.voxels.specs.Chunk.{stops, named, boxedHit, cellHit, stepTimes, allLater, nextKey, stepTo, stepFrom, orElse, turnAt, onward, walk, walkWithin, castClipped, chunkCast}
+use Rattle.voxels.specs.Chunk.{stops, named, boxedHit, cellHit, stepTimes, allLater, nextKey, stepTo, stepFrom, orElse, turnAt, onward, walk, walkWithin, castClipped, chunkCast, NamesCell}
+use Rattle.voxels.proofs.Bounds.{number-bound}
 
 never : {A : Type 0} → _≡_ {A = ℕ} 0 1 → A
 never z = absurd (omega arith)
@@ -64,6 +65,35 @@ turn-hit f kinds r limit solid k h = go (cellHit f kinds r limit solid k)
     go : (o : Option RayIntersection) → orElse o (stepFrom k (r .dir) (stepTimes (cellBox f k) r) limit) ≡ Hit h → o ≡ Some h
     go None e = step-is-no-hit k (r .dir) (stepTimes (cellBox f k) r) limit h e
     go (Some g) e = cc
+
+-- ---- a hit names a filled cell
+cell-named : (f : ChunkFrame) (kinds : ℕ → ℕ) (r : Ray) (limit : Float) (solid : Bool) (k : VoxelKey) (h : RayIntersection)
+    → cellHit f kinds r limit solid k ≡ Some h → NamesCell f kinds h
+unfolding cellHit
+cell-named f kinds r limit solid k h e =
+    let p = through (cellNumber k) (boxedHit f kinds r limit solid k) h e in
+    go (p .0) (number-bound k (p .0) (p .1)) (stops (kinds (p .0))) refl (p .2)
+  where
+    go : (n : ℕ) → n < 512 → (b : Bool) → stops (kinds n) ≡ b → cond b (andThen (boxCast (cellBox f k) r limit solid) (named (flatId f n))) None ≡ Some h → NamesCell f kinds h
+    go n i true s e =
+        let q = through (boxCast (cellBox f k) r limit solid) (named (flatId f n)) h e in
+        record { cell = n; inside = i; filled = s; feature = cc (q .2) }
+    go n i false s e = none-is-not-some h e
+
+pub chunk-named : (f : ChunkFrame) (kinds : ℕ → ℕ) (r : Ray) (reach : Float) (solid : Bool) (h : RayIntersection) → chunkCast f kinds r reach solid .hit ≡ Some h → NamesCell f kinds h
+unfolding chunkCast
+chunk-named f kinds r reach solid h e = go (clipRay (chunkBox f) r) e
+  where
+    tested : (clip : Float × Float) → (late : Bool)
+        → cond late (record { hit = None; visited = 0 }) (walkWithin f kinds r solid (clip .0) (Floats.least (clip .1) reach)) .hit ≡ Some h → NamesCell f kinds h
+    tested clip true e = none-is-not-some h e
+    tested clip false e =
+        let limit = Floats.least (clip .1) reach in
+        walk-hit (turnAt f kinds r limit solid) (NamesCell f kinds) (λ k g s. cell-named f kinds r limit solid k g (turn-hit f kinds r limit solid k g s))
+        25 (keyOf f (Rattle.query.specs.Cast.pointAt r (clip .0))) h e
+    go : (o : Option (Float × Float)) → castClipped f kinds r reach solid o .hit ≡ Some h → NamesCell f kinds h
+    go None e = none-is-not-some h e
+    go (Some clip) e = tested clip (lt reach (clip .0)) e
 
 -- ---- the time law
 named-timed : (face : ℕ) (limit : Float) (g h : RayIntersection) → Within (g .«time_of_impact») limit → named face g ≡ Some h → Within (h .«time_of_impact») limit

@@ -1,6 +1,7 @@
 -- The cast of a chunk: a walk from cell to cell along the ray, up to the first filled cell whose box the ray hits.
-use mathlib.Core.Bool.{Bool, cond, _&&_}
-use Prim.Native.Nat.{ℕ, zero, suc, _+_, _-_}
+use mathlib.Core.Path.{_≡_}
+use mathlib.Core.Bool.{Bool, true, cond, _&&_}
+use Prim.Native.Nat.{ℕ, zero, suc, _+_, _-_, _<_}
 use lib.Dec.{eqb, ltb}
 use lib.Ieee.{Float, lt}
 use Rattle.scalar.specs.Single.{minus, over, largest}
@@ -124,3 +125,10 @@ castClipped f kinds r reach solid (Some clip) = cond (lt reach (clip .0)) (noHit
 
 unfoldable pub chunkCast : ChunkFrame → (ℕ → ℕ) → Ray → Float → Bool → ChunkCast
 chunkCast f kinds r reach solid = castClipped f kinds r reach solid (clipRay (chunkBox f) r)
+
+-- ---- what a hit names: a cell that stops lines, by the face id * 512 + its number
+pub record NamesCell (f : ChunkFrame) (kinds : ℕ → ℕ) (h : RayIntersection) : Type 0 where
+  pub cell : ℕ
+  pub inside : cell < 512
+  pub filled : stops (kinds cell) ≡ true
+  pub feature : h .feature ≡ Face (flatId f cell)

@@ -7,10 +7,13 @@ use crate::scan::Scan;
 use crate::scan::power_of_two;
 use math::Vector;
 use query::ray::Ray;
+use query::ray::RayIntersection;
 ghost use mathlib.Core.Path.{_≡_};
 ghost use Prim.Native.Nat.{_≤_};
 ghost use lib.IntN.{pos, negsuc};
 ghost use lib.Signed.{_≤ℤ_};
+ghost use Rattle.std.specs.declared.option.Option.the-variants.{Some};
+ghost use Rattle.voxels.specs.Chunk.{NamesCell};
 ghost use Rattle.voxels.specs.Sight.{coordinate, gridPosition, position, lookAt};
 
 // Where a grid number stands on an axis of the chunk with that key.
@@ -45,6 +48,7 @@ impl<S: CellStore> Scan<S> {
     // The solid cast from camera to target: what stops the line, and how many keys the walk stood on.
     pub fn look(&self, camera: &GridPoint, target: &GridPoint) -> ChunkCast
         ensures value { λ r. ⌜ r ≡ lookAt (now (self .entry) .exponent) (now (self .entry) .chunk .frame) (S·CellStore .kinds (now (self .entry) .chunk .cells)) (now (camera .entry)) (now (target .entry)) ⌝ }
+        ensures named { λ r. ⌜ ((h : RayIntersection) → r .hit ≡ Some h → NamesCell (now (self .entry) .chunk .frame) (S·CellStore .kinds (now (self .entry) .chunk .cells)) h) ⌝ }
     {
         let origin = self.position(camera);
         let dir = self.position(target).sub(origin);

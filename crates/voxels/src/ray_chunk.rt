@@ -13,8 +13,9 @@ use query::ray::RayIntersection;
 use query::ray_aabb::AabbRayCast;
 ghost use mathlib.Core.Path.{_≡_};
 ghost use Prim.Native.Nat.{_≤_};
-ghost use Rattle.voxels.specs.Chunk.{stops, cellHit, turnAt, walk, chunkCast};
+ghost use Rattle.voxels.specs.Chunk.{stops, cellHit, turnAt, walk, chunkCast, NamesCell};
 ghost use Rattle.voxels.specs.Frame.{cellBox};
+ghost use Rattle.std.specs.declared.option.Option.the-variants.{Some};
 
 // Whether a kind of cell stops a line.
 fn stops(kind: u8) -> bool
@@ -74,6 +75,7 @@ impl<S: CellStore> Chunk<S> {
     pub fn cast_ray(&self, ray: &Ray, max_time_of_impact: f32, solid: bool) -> ChunkCast
         ensures value { λ r. ⌜ r ≡ chunkCast (now (self .entry) .frame) (S·CellStore .kinds (now (self .entry) .cells)) (now (ray .entry)) «max_time_of_impact» solid ⌝ }
         ensures few { λ r. ⌜ r .visited ≤ 25 ⌝ }
+        ensures named { λ r. ⌜ ((h : RayIntersection) → r .hit ≡ Some h → NamesCell (now (self .entry) .frame) (S·CellStore .kinds (now (self .entry) .cells)) h) ⌝ }
     {
         let Some((start, end)) = self.frame.local_aabb().clip_ray_parameters(ray) else {
             return ChunkCast { hit: None, visited: 0 };
