@@ -16,11 +16,11 @@ pieces-first p (c ∷ cs) n e h =
     ⊎-elim
     (λ q. let none : n ≡ 0 = rw q at e in cond-true (p c) _ _ q ∙ rw none)
     (λ q.
-        let m : ℕ = leading (other p) cs in
-        let more : n ≡ 1 + m = rw q at e in
-        let next : n ≡ suc m = omega arith in
-        let past : n + 1 ≡ suc (m + 1) = omega arith in
-        cond-false (p c) _ _ q ∙ ap (before c) (pieces-first p cs m refl (omega arith)) ∙ rw (past, next))
+    let m : ℕ = leading (other p) cs in
+    let more : n ≡ 1 + m = rw q at e in
+    let next : n ≡ suc m = omega arith in
+    let past : n + 1 ≡ suc (m + 1) = omega arith in
+    cond-false (p c) _ _ q ∙ ap (before c) (pieces-first p cs m refl (omega arith)) ∙ rw (past, next))
     (cases-bool (p c))
 
 pub pieces-last : (p : ℕ → Bool) (xs : List ℕ) → length xs ≡ leading (other p) xs → 0 < length xs → pieces p xs ≡ xs ∷ []
@@ -34,8 +34,8 @@ pieces-last p (c ∷ d ∷ cs) e h =
     ⊎-elim
     (λ q. let none : length (c ∷ d ∷ cs) ≡ 0 = rw q at e in absurd (omega arith))
     (λ q.
-        let more : length (c ∷ d ∷ cs) ≡ 1 + leading (other p) (d ∷ cs) = rw q at e in
-        cond-false (p c) _ _ q ∙ ap (before c) (pieces-last p (d ∷ cs) (omega arith) (omega arith)))
+    let more : length (c ∷ d ∷ cs) ≡ 1 + leading (other p) (d ∷ cs) = rw q at e in
+    cond-false (p c) _ _ q ∙ ap (before c) (pieces-last p (d ∷ cs) (omega arith) (omega arith)))
     (cases-bool (p c))
 
 before-few : (c : ℕ) (ws : List (List ℕ)) (n : ℕ) → length ws ≤ n → length (before c ws) ≤ n + 1

@@ -1,15 +1,14 @@
 -- What is written of a statement is read back.
-use mathlib.Core.Path.{_≡_, refl, sym, ap, _∙_}
-use mathlib.Core.Bool.{Bool, true, false, not, _&&_}
+use mathlib.Core.Path.{_≡_, refl, ap, _∙_}
+use mathlib.Core.Bool.{Bool, true, false, _&&_}
 use mathlib.Core.List.{List, [], _∷_, _++_, map}
-use Prim.Native.Nat.{ℕ, suc, _+_, _^_, _≤_, _<_}
+use Prim.Native.Nat.{ℕ, suc, _+_, _^_, _<_}
 use native.Mathlib.Omega.{arith}
 use lib.Dec.{leb}
 use lib.IntN.{ℤ, pos, negsuc, negℤ}
-use lib.ListN.{length, getD, take, drop}
-use Rattle.std.specs.declared.option.Option.{Option}
-use Rattle.std.specs.declared.option.Option.the-variants.{Some, None}
-use Rattle.std.specs.declared.result.Result.the-variants.{Ok, Err}
+use lib.ListN.{length, getD}
+use Rattle.std.specs.declared.option.Option.the-variants.{Some}
+use Rattle.std.specs.declared.result.Result.the-variants.{Ok}
 use Rattle.std.specs.Options.{mapped}
 use Rattle.std.specs.Written.{decimal, signed}
 use Rattle.std.specs.shelf.Lists.{All, leading}
@@ -24,8 +23,8 @@ use Rattle.setup.specs.declared.Statement.{Statement}
 use Rattle.setup.specs.declared.Statement.the-variants as statement
 use Rattle.setup.specs.declared.Line.{Line}
 use Rattle.setup.specs.declared.Line.the-variants.{Says}
-use Rattle.setup.specs.Grammar.{other, blank, hash, words, uncommented, readOn, natural, wholeNumber, wholeNumbers, put, keywordOf, count, stated, said, meaning, meaningAfter, lineMeaning}
-use Rattle.setup.specs.Texts.{name, keyword, numbers, spaced, written, Short}
+use Rattle.setup.specs.Grammar.{other, blank, hash, words, uncommented, readOn, natural, wholeNumber, wholeNumbers, put, keywordOf, name, stated, said, meaning, meaningAfter, lineMeaning}
+use Rattle.setup.specs.Texts.{keyword, numbers, spaced, written, Short}
 use Rattle.setup.proofs.Numbers.{natural-some, wholeNumber-minus, wholeNumber-plain}
 use Rattle.setup.proofs.Words.{words-after-blank, words-first}
 

@@ -21,10 +21,10 @@ uncommented-is (c ∷ cs) n e =
     ⊎-elim
     (λ q. let none : n ≡ 0 = rw q at e in cond-true (hash c) _ _ q ∙ rw none)
     (λ q.
-        let m : ℕ = leading (other hash) cs in
-        let more : n ≡ 1 + m = rw q at e in
-        let next : n ≡ suc m = omega arith in
-        cond-false (hash c) _ _ q ∙ ap (λ l. c ∷ l) (uncommented-is cs m refl) ∙ rw next)
+    let m : ℕ = leading (other hash) cs in
+    let more : n ≡ 1 + m = rw q at e in
+    let next : n ≡ suc m = omega arith in
+    cond-false (hash c) _ _ q ∙ ap (λ l. c ∷ l) (uncommented-is cs m refl) ∙ rw next)
     (cases-bool (hash c))
 
 -- the byte at which the run of p ends
@@ -33,9 +33,9 @@ leading-ends p [] h = absurd (omega arith)
 leading-ends p (c ∷ cs) h =
     ⊎-elim
     (λ q.
-        let more : leading p (c ∷ cs) ≡ 1 + leading p cs = cond-true (p c) _ _ q in
-        let next : leading p (c ∷ cs) ≡ suc (leading p cs) = omega arith in
-        ap (λ i. p (getD (c ∷ cs) i 0)) next ∙ leading-ends p cs (omega arith))
+    let more : leading p (c ∷ cs) ≡ 1 + leading p cs = cond-true (p c) _ _ q in
+    let next : leading p (c ∷ cs) ≡ suc (leading p cs) = omega arith in
+    ap (λ i. p (getD (c ∷ cs) i 0)) next ∙ leading-ends p cs (omega arith))
     (λ q. ap (λ i. p (getD (c ∷ cs) i 0)) (cond-false (p c) (1 + leading p cs) 0 q) ∙ q)
     (cases-bool (p c))
 
@@ -49,10 +49,10 @@ words-after-blanks [] n e = rw e
 words-after-blanks (c ∷ cs) n e =
     ⊎-elim
     (λ q.
-        let m : ℕ = leading blank cs in
-        let more : n ≡ 1 + m = rw q at e in
-        let next : n ≡ suc m = omega arith in
-        words-after-blank c cs q ∙ words-after-blanks cs m refl ∙ rw next)
+    let m : ℕ = leading blank cs in
+    let more : n ≡ 1 + m = rw q at e in
+    let next : n ≡ suc m = omega arith in
+    words-after-blank c cs q ∙ words-after-blanks cs m refl ∙ rw next)
     (λ q. let none : n ≡ 0 = rw q at e in rw none)
     (cases-bool (blank c))
 
@@ -68,11 +68,11 @@ words-first (c ∷ cs) n e h =
     let at-most = leading-le-length (other blank) xs in
     ⊎-elim
     (λ (inside : n < length xs).
-        let ends : blank (getD xs n 0) ≡ true = rw e (not-false _ (leading-ends (other blank) xs (omega arith))) in
-        let rest : words (drop n xs) ≡ words (drop (n + 1) xs) = ap words (drop-more xs n 0 inside) ∙ words-after-blank (getD xs n 0) (drop (n + 1) xs) ends in
-        ap (kept-by filled) (pieces-first blank xs n e inside)
-        ∙ cond-true (filled (take n xs)) _ _ (filled-take n c cs h)
-        ∙ ap (λ ws. take n xs ∷ ws) (sym rest))
+    let ends : blank (getD xs n 0) ≡ true = rw e (not-false _ (leading-ends (other blank) xs (omega arith))) in
+    let rest : words (drop n xs) ≡ words (drop (n + 1) xs) = ap words (drop-more xs n 0 inside) ∙ words-after-blank (getD xs n 0) (drop (n + 1) xs) ends in
+    ap (kept-by filled) (pieces-first blank xs n e inside)
+    ∙ cond-true (filled (take n xs)) _ _ (filled-take n c cs h)
+    ∙ ap (λ ws. take n xs ∷ ws) (sym rest))
     (λ (whole : length xs ≤ n). rw (take-all n xs whole, drop-all n xs whole) (ap (kept-by filled) (pieces-last blank xs (omega arith) (omega arith))))
     (cases-lt n (length xs))
 

@@ -24,7 +24,7 @@ use Rattle.setup.specs.declared.Line.the-variants.{Blank, Says, Unclear}
 
 -- ---- lines and words
 
--- c, written before the first piece
+-- c before the first piece
 abbrev pub before : ℕ → List (List ℕ) → List (List ℕ)
 before c [] = (c ∷ []) ∷ []
 before c (w ∷ ws) = (c ∷ w) ∷ ws
@@ -49,10 +49,11 @@ abbrev pub filled : List ℕ → Bool
 filled [] = false
 filled (c ∷ cs) = true
 
--- a text that ends with a newline has no further empty line after it
+-- a newline ends its line, so a text that ends with one has no further empty line after it
 unfoldable pub lines : List ℕ → List (List ℕ)
 lines text = pieces newline text
 
+-- what stands between blanks
 unfoldable pub words : List ℕ → List (List ℕ)
 words line = kept-by filled (pieces blank line)
 
@@ -80,12 +81,13 @@ unfoldable pub wholeNumber : List ℕ → Option ℤ
 wholeNumber [] = None
 wholeNumber (c ∷ cs) = cond (eqb c 45) (mapped (λ n. negℤ (pos n)) (natural cs)) (mapped pos (natural (c ∷ cs)))
 
+-- what a word writes, before what the later words write: the first word that writes no number is the one that counts
 abbrev pub put : Option ℤ → Result (List ℤ) ℕ → ℕ → Result (List ℤ) ℕ
 put None read place = Err place
 put (Some z) (Ok zs) place = Ok (z ∷ zs)
 put (Some z) (Err later) place = Err later
 
--- the numbers that the words write, or the place of the first word that writes none; the first word is at that place
+-- the numbers that the words write, or the place of the first word that writes none, counted from the given place on
 abbrev pub wholeNumbers : ℕ → List (List ℕ) → Result (List ℤ) ℕ
 wholeNumbers place [] = Ok []
 wholeNumbers place (w ∷ ws) = put (wholeNumber w) (wholeNumbers (place + 1) ws) place
@@ -99,12 +101,18 @@ count Mark = 3
 count Wipe = 3
 count Sight = 6
 
+abbrev pub name : Keyword → List ℕ
+name Room = codes "room"
+name Mark = codes "mark"
+name Wipe = codes "wipe"
+name Sight = codes "sight"
+
 unfoldable pub keywordOf : List ℕ → Option Keyword
 keywordOf w =
-    cond (sameBytes w (codes "room")) (Some Room)
-    (cond (sameBytes w (codes "mark")) (Some Mark)
-    (cond (sameBytes w (codes "wipe")) (Some Wipe)
-    (cond (sameBytes w (codes "sight")) (Some Sight) None)))
+    cond (sameBytes w (name Room)) (Some Room)
+    (cond (sameBytes w (name Mark)) (Some Mark)
+    (cond (sameBytes w (name Wipe)) (Some Wipe)
+    (cond (sameBytes w (name Sight)) (Some Sight) None)))
 
 abbrev pub nth : List ℤ → ℕ → ℤ
 nth zs i = getD zs i (pos 0)
@@ -113,6 +121,7 @@ nth zs i = getD zs i (pos 0)
 abbrev pub triple : List ℤ → ℕ → IVector
 triple zs i = record { x = nth zs i; y = nth zs (i + 1); z = nth zs (i + 2) }
 
+-- the statement with these numbers
 abbrev pub stated : Keyword → List ℤ → Statement
 stated Room zs = statement.Room (nth zs 0) (triple zs 1) (nth zs 4)
 stated Mark zs = statement.Mark (triple zs 0)
@@ -123,6 +132,7 @@ abbrev pub said : Keyword → Result (List ℤ) ℕ → Line
 said k (Ok zs) = Says (stated k zs)
 said k (Err place) = Unclear (expected.WholeNumber place)
 
+-- first the keyword, then the count of the words after it, then each of them
 abbrev pub meaningAfter : Option Keyword → List (List ℕ) → Line
 meaningAfter None ws = Unclear expected.Keyword
 meaningAfter (Some k) ws = cond (eqb (length ws) (count k)) (said k (wholeNumbers 1 ws)) (Unclear (expected.Numbers k))

@@ -11,13 +11,7 @@ use Rattle.setup.specs.declared.Keyword.{Keyword}
 use Rattle.setup.specs.declared.Keyword.the-variants.{Room, Mark, Wipe, Sight}
 use Rattle.setup.specs.declared.Expected.{Expected}
 use Rattle.setup.specs.declared.Expected.the-variants as expected
-use Rattle.setup.specs.Grammar.{count}
-
-abbrev pub name : Keyword → List ℕ
-name Room = codes "room"
-name Mark = codes "mark"
-name Wipe = codes "wipe"
-name Sight = codes "sight"
+use Rattle.setup.specs.Grammar.{count, name}
 
 abbrev pub keyword : Statement → Keyword
 keyword (statement.Room e k i) = Room

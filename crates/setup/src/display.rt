@@ -1,6 +1,7 @@
 // Texts that can be read out: a statement as a setup file writes it, and what a line should have had.
 ghost use Rattle.std.specs.declared.option.Option.the-variants.{Some};
-ghost use Rattle.setup.specs.Texts.{name, written, wanted};
+ghost use Rattle.setup.specs.Grammar.{name};
+ghost use Rattle.setup.specs.Texts.{written, wanted};
 use crate::Expected;
 use crate::Keyword;
 use crate::Statement;
@@ -31,7 +32,10 @@ pub impl fmt::Display for Expected as ExpectedDisplay {
                 write!(f, "expected {count} numbers after {keyword}")
             }
             Expected::WholeNumber(place) => {
-                write!(f, "expected a whole number of at most nine digits as number {place}")
+                write!(
+                    f,
+                    "expected a whole number of at most nine digits as number {place}"
+                )
             }
         }
     }

@@ -1,6 +1,7 @@
 // Reads the lines of a setup file into statements.
 ghost use mathlib.Core.Path.{_≡_};
 ghost use Rattle.setup.specs.Grammar.{count};
+
 mod display;
 mod number;
 mod parse;
@@ -8,22 +9,33 @@ mod scan;
 #[cfg(test)]
 mod tests;
 
-use math::IVector;
-use math::IVectorDebug;
-use math::IVectorPartialEq;
 pub use display::ExpectedDisplay;
 pub use display::KeywordDisplay;
 pub use display::StatementDisplay;
+use math::IVector;
+use math::IVectorDebug;
+use math::IVectorPartialEq;
 pub use parse::parse_line;
 pub use scan::split_line;
 
 // What a line asks for.
 #[derive(Clone, Copy, PartialEq, Debug)]
 pub enum Statement {
-    Room { exponent: i32, key: IVector, id: i32 },
-    Mark { cell: IVector },
-    Wipe { cell: IVector },
-    Sight { camera: IVector, target: IVector },
+    Room {
+        exponent: i32,
+        key: IVector,
+        id: i32,
+    },
+    Mark {
+        cell: IVector,
+    },
+    Wipe {
+        cell: IVector,
+    },
+    Sight {
+        camera: IVector,
+        target: IVector,
+    },
 }
 
 // The word that a statement begins with.

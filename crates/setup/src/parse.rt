@@ -15,6 +15,7 @@ use crate::scan::split_word;
 use crate::scan::without_comment;
 use math::IVector;
 
+// Whether the word is that name, byte for byte.
 fn spells(word: &[u8], name: &[u8]) -> bool
     ensures { λ r. ⌜ r ≡ sameBytes (now (word .entry)) (now (name .entry)) ⌝ }
 {
@@ -41,18 +42,30 @@ fn keyword_of(word: &[u8]) -> Option<Keyword>
 fn statement_of(keyword: Keyword, numbers: [i32; MOST]) -> Statement
     ensures { λ r. ⌜ r ≡ stated keyword numbers ⌝ }
 {
-    let first = IVector { x: numbers[0], y: numbers[1], z: numbers[2] };
+    let first = IVector {
+        x: numbers[0],
+        y: numbers[1],
+        z: numbers[2],
+    };
     match keyword {
         Keyword::Room => Statement::Room {
             exponent: numbers[0],
-            key: IVector { x: numbers[1], y: numbers[2], z: numbers[3] },
+            key: IVector {
+                x: numbers[1],
+                y: numbers[2],
+                z: numbers[3],
+            },
             id: numbers[4],
         },
         Keyword::Mark => Statement::Mark { cell: first },
         Keyword::Wipe => Statement::Wipe { cell: first },
         Keyword::Sight => Statement::Sight {
             camera: first,
-            target: IVector { x: numbers[3], y: numbers[4], z: numbers[5] },
+            target: IVector {
+                x: numbers[3],
+                y: numbers[4],
+                z: numbers[5],
+            },
         },
     }
 }

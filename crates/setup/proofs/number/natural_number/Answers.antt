@@ -1,7 +1,6 @@
 use mathlib.Core.Path.{refl, sym, ap, _∙_}
 use native.Mathlib.Omega.{arith}
 use borrow.Author.Needs.{needs}
-use lib.ListN.{length}
 use Rattle.std.specs.declared.option.Option.the-variants.{Some}
 use Rattle.std.proofs.shelf.Tests.{eqb-true, eqb-false}
 use Rattle.setup.proofs.Numbers.{read-more, read-all, read-no, read-bound, natural-some, natural-letters, natural-empty, natural-long}
@@ -12,7 +11,7 @@ pub returns-then-is-empty : need.returns-then-is-empty
 returns-then-is-empty c = record {
   value =
       elim (c .then-is-empty .came) [
-          then-is-empty·by·then-is-empty w ↦ sym (natural-empty _ (eqb-true _ _ (sym (w .if-is-empty .ensures tt))))
+        | then-is-empty·by·then-is-empty w ↦ sym (natural-empty _ (eqb-true _ _ (sym (w .if-is-empty .ensures tt))))
         | then-is-empty·by·else-is-empty·then-digits-gt9 w ↦ sym (natural-long _ (w .if-digits-gt9 .taken))
       ];
   bound = tt;

@@ -1,9 +1,7 @@
 use mathlib.Core.Path.{_≡_, sym, ap, _∙_}
-use Prim.Native.Nat.{_<_}
 use native.Mathlib.Omega.{arith}
-use borrow.Author.Needs.{needs}
 use lib.IntN.{pos, negℤ, _-ℤ_}
-use lib.ListN.{length, drop, getD}
+use lib.ListN.{drop}
 use mir.Syntax.{w32}
 use mir.Val.{toZ, ofZ}
 use Rattle.std.specs.declared.option.Option.the-variants.{Some}
@@ -24,7 +22,7 @@ minus c =
 plain : (c : Joined-else-not-is-empty) → wholeNumber (c .args .word .now) ≡ mapped pos (natural (c .args .word .now))
 plain c = wholeNumber-plain (c .args .word .now)
     (elim (c .else-not-is-empty .came) [
-        else-not-is-empty·by·then-not-is-empty·else-word-eq45 w ↦ λ some. w .if-word-eq45 .left
+      | else-not-is-empty·by·then-not-is-empty·else-word-eq45 w ↦ λ some. w .if-word-eq45 .left
       | else-not-is-empty·by·else-not-is-empty w ↦ λ some. absurd (omega (arith, eqb-true _ _ (sym (w .if-not-is-empty .ensures tt))))
     ])
 

@@ -1,7 +1,5 @@
-use Prim.Native.Nat.{_+_}
-use mathlib.Core.Path.{_≡_}
-use lib.ListN.{length, take}
-use Rattle.setup.specs.Grammar.{words, wholeNumbers}
+use lib.ListN.{length}
+use Rattle.setup.specs.Grammar.{words}
 use Rattle.setup.proofs.Numbers.{Gathered}
 use Rattle.setup.proofs.number.whole_numbers.Given as given
 

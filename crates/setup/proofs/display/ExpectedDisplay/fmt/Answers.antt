@@ -1,4 +1,3 @@
-use mathlib.Core.Path.{sym}
 use Rattle.setup.proofs.display.ExpectedDisplay.fmt.Needs as need
 
 pub returns-in-Keyword : need.returns-in-Keyword
