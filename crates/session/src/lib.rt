@@ -1,0 +1,3 @@
+// Carries out a setup file, line by line.
+pub mod outcome;
+pub mod session;
