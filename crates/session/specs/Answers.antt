@@ -8,6 +8,8 @@ use Rattle.math.specs.declared.IVector.{IVector}
 use Rattle.std.specs.Results.{isOk}
 use Rattle.std.specs.declared.option.Option.{Option}
 use Rattle.std.specs.declared.option.Option.the-variants.{None, Some}
+use Rattle.setup.specs.declared.Line.{Line}
+use Rattle.setup.specs.declared.Line.the-variants as line
 use Rattle.setup.specs.declared.Statement.{Statement}
 use Rattle.setup.specs.declared.Statement.the-variants as statement
 use Rattle.voxels.specs.declared.scan.Scan.{Scan}
@@ -19,7 +21,7 @@ use Rattle.voxels.specs.Store.{withCell}
 use Rattle.voxels.specs.Cells.{cellIndex, cellAnswer}
 use Rattle.voxels.specs.Sight.{lookAt}
 use Rattle.session.specs.declared.outcome.Outcome.{Outcome}
-use Rattle.session.specs.declared.outcome.Outcome.the-variants.{Done, Refused, RoomMissing, RoomTwice}
+use Rattle.session.specs.declared.outcome.Outcome.the-variants.{Blank, Done, Refused, RoomMissing, RoomTwice, Unclear}
 use Rattle.session.specs.Outcomes.{seen, doneOr}
 
 -- ---- a sight line
@@ -84,3 +86,9 @@ StillIn kinds capacity s statement o (Some t) = InCorner kinds capacity s statem
 abbrev pub Answers : {S : Type 0} → (S → ℕ → ℕ) → ℕ → Option (Scan S) → Statement → Outcome → Option (Scan S) → Type 0
 Answers kinds capacity None statement o after = BeforeRoom kinds statement o after
 Answers kinds capacity (Some s) statement o after = StillIn kinds capacity s statement o after
+
+-- ---- a line
+abbrev pub AnswersLine : {S : Type 0} → (S → ℕ → ℕ) → ℕ → Option (Scan S) → Line → Outcome → Option (Scan S) → Type 0
+AnswersLine kinds capacity before line.Blank o after = (o ≡ Blank) × (after ≡ before)
+AnswersLine kinds capacity before (line.Says statement) o after = Answers kinds capacity before statement o after
+AnswersLine kinds capacity before (line.Unclear wanted) o after = (o ≡ Unclear wanted) × (after ≡ before)

@@ -2,16 +2,20 @@
 use crate::outcome::Outcome;
 use math::IVector;
 use query::feature_id::FeatureId;
+use setup::Line;
+use setup::Statement;
+use setup::parse_line;
 use voxels::cell_store::CellStore;
 use voxels::chunk_cast::ChunkCast;
 use voxels::grid_point::GridPoint;
 use voxels::refusal::Refusal;
 use voxels::scan::Scan;
-use setup::Statement;
 ghost use mathlib.Core.Path.{_≡_};
 ghost use Prim.Native.Nat.{ℕ};
+ghost use Rattle.std.specs.declared.option.Option.the-variants.{None};
+ghost use Rattle.setup.specs.Grammar.{lineMeaning};
 ghost use Rattle.session.specs.Outcomes.{seen, doneOr};
-ghost use Rattle.session.specs.Answers.{Sees, InCorner};
+ghost use Rattle.session.specs.Answers.{Sees, InCorner, Opens, BeforeRoom, Answers, AnswersLine};
 
 fn done_or(r: Result<(), Refusal>) -> Outcome
     ensures { λ o. ⌜ o ≡ doneOr r ⌝ }
@@ -54,5 +58,67 @@ fn in_corner<S: CellStore>(scan: &mut Scan<S>, statement: Statement) -> Outcome
         Statement::Mark { cell } => done_or(scan.mark(cell)),
         Statement::Wipe { cell } => done_or(scan.wipe(cell)),
         Statement::Sight { camera, target } => sight(scan, camera, target),
+    }
+}
+
+// A new corner, or a refusal.
+fn open_room<S: CellStore>(exponent: i32, key: IVector, id: i32) -> (Outcome, Option<Scan<S>>)
+    ensures { λ r. ⌜ Opens (S·CellStore .kinds) exponent key id (r .0) (r .1) ⌝ }
+{
+    if id < 0 {
+        return (Outcome::Refused(Refusal::BadMaking), None);
+    }
+    match Scan::new(exponent, key, id as u32) {
+        Ok(scan) => (Outcome::Done, Some(scan)),
+        Err(refusal) => (Outcome::Refused(refusal), None),
+    }
+}
+
+// A statement where there is no corner yet.
+fn before_room<S: CellStore>(statement: Statement) -> (Outcome, Option<Scan<S>>)
+    ensures { λ r. ⌜ BeforeRoom (S·CellStore .kinds) statement (r .0) (r .1) ⌝ }
+{
+    match statement {
+        Statement::Room { exponent, key, id } => open_room(exponent, key, id),
+        _ => (Outcome::RoomMissing, None),
+    }
+}
+
+// The corner so far: none before an accepted room.
+#[derive(Drop)]
+pub struct Session<S> {
+    corner: Option<Scan<S>>,
+}
+
+impl<S: CellStore + Drop> Session<S> {
+    pub fn new() -> Session<S>
+        ensures { λ r. ⌜ r .corner ≡ None ⌝ }
+    {
+        Session { corner: None }
+    }
+
+    // Carries out a statement.
+    pub fn answer(&mut self, statement: Statement) -> Outcome
+        ensures { λ o. ⌜ Answers (S·CellStore .kinds) (S·CellStore .capacity) (now (self .entry) .corner) statement o (now (self .exit) .corner) ⌝ }
+    {
+        match &mut self.corner {
+            Some(scan) => in_corner(scan, statement),
+            None => {
+                let (outcome, corner) = before_room(statement);
+                self.corner = corner;
+                outcome
+            }
+        }
+    }
+
+    // Carries out a line.
+    pub fn answer_line(&mut self, line: &[u8]) -> Outcome
+        ensures { λ o. ⌜ AnswersLine (S·CellStore .kinds) (S·CellStore .capacity) (now (self .entry) .corner) (lineMeaning (now (line .entry))) o (now (self .exit) .corner) ⌝ }
+    {
+        match parse_line(line) {
+            Line::Blank => Outcome::Blank,
+            Line::Says(statement) => self.answer(statement),
+            Line::Unclear(expected) => Outcome::Unclear(expected),
+        }
     }
 }
