@@ -1,3 +1,5 @@
 // Carries out a setup file, line by line.
 pub mod outcome;
+pub mod run;
 pub mod session;
+pub mod tally;
