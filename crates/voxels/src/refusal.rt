@@ -1,6 +1,8 @@
 // Why a call is turned away. A refusal changes nothing.
+use std::fmt;
 ghost use mathlib.Core.Path.{_≡_};
-ghost use Rattle.voxels.specs.Refusals.{refusalNumber};
+ghost use Rattle.std.specs.declared.option.Option.the-variants.{Some};
+ghost use Rattle.voxels.specs.Refusals.{refusalNumber, refusalText};
 
 #[derive(Clone, Copy, PartialEq, Eq, Debug)]
 pub enum Refusal {
@@ -24,6 +26,19 @@ impl Refusal {
             Refusal::CellOutside => 2,
             Refusal::StoreFull => 8,
             Refusal::BadMaking => 12,
+        }
+    }
+}
+
+pub impl fmt::Display for Refusal as RefusalDisplay {
+    ghost shown = { λ r. Some (refusalText r) };
+
+    fn fmt<W: fmt::Write>(&self, f: &mut fmt::Formatter<W>) -> fmt::Result {
+        match self {
+            Refusal::PointOutside => write!(f, "a grid coordinate is outside 0 to 1023"),
+            Refusal::CellOutside => write!(f, "a cell coordinate is outside 0 to 7"),
+            Refusal::StoreFull => write!(f, "no further cell can be filled"),
+            Refusal::BadMaking => write!(f, "the size, a key or the id is out of range"),
         }
     }
 }
