@@ -14,7 +14,7 @@ pub impl fmt::Display for Outcome as OutcomeDisplay {
                 let x = cell % 8;
                 let y = cell / 8 % 8;
                 let z = cell / 64;
-                write!(f, "blocked by cell ({x}, {y}, {z}), number {cell}, at time {time}; {visited} cells visited")
+                write!(f, "blocked by cell ({x}, {y}, {z}), number {cell}, {time} of the way; {visited} cells visited")
             }
             Outcome::Refused(refusal) => {
                 let number = refusal.number();
