@@ -5,3 +5,4 @@ pub mod Bounds
 pub mod Walk
 pub mod Laws
 pub mod Powers
+pub mod Positions

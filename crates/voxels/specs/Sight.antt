@@ -36,3 +36,6 @@ lookAt e f kinds camera target = chunkCast f kinds (sightLine e (f .key) camera 
 -- x is exactly (1024 * key + g) * 2^(e - 7), for e from -10 on: a unit is 2^(e + 10) / 2^17
 abbrev pub Exactly : Float → ℤ → ℤ → ℕ → Type 0
 Exactly x e key g = OnGrid x (natAbs (e +ℤ pos 10)) (place key g)
+
+abbrev pub ExactlyAt : Vector → ℤ → IVector → GridPoint → Type 0
+ExactlyAt v e key p = Exactly (v .x) e (key .x) (p .x) × Exactly (v .y) e (key .y) (p .y) × Exactly (v .z) e (key .z) (p .z)

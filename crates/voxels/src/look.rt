@@ -11,7 +11,7 @@ ghost use mathlib.Core.Path.{_≡_};
 ghost use Prim.Native.Nat.{_≤_};
 ghost use lib.IntN.{pos, negsuc};
 ghost use lib.Signed.{_≤ℤ_};
-ghost use Rattle.voxels.specs.Sight.{coordinate, gridPosition, position, lookAt};
+ghost use Rattle.voxels.specs.Sight.{coordinate, gridPosition, position, ExactlyAt, lookAt};
 
 // Where a grid number stands on an axis of the chunk with that key.
 fn coordinate(key: i32, g: u16, unit: f32) -> f32
@@ -38,6 +38,7 @@ impl<S: CellStore> Scan<S> {
     // Where a grid point stands, in metres.
     pub fn position(&self, point: &GridPoint) -> Vector
         ensures value { λ r. ⌜ r ≡ position (now (self .entry) .exponent) (now (self .entry) .chunk .frame .key) (now (point .entry)) ⌝ }
+        ensures exact { λ r. ⌜ ExactlyAt r (now (self .entry) .exponent) (now (self .entry) .chunk .frame .key) (now (point .entry)) ⌝ }
     {
         self.chunk.frame.grid_position(point, power_of_two(self.exponent - 7))
     }
