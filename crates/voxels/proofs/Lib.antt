@@ -6,3 +6,6 @@ pub mod Walk
 pub mod Laws
 pub mod Powers
 pub mod Positions
+pub mod Cubes
+pub mod ClipFromInside
+pub mod LookStart
