@@ -3,6 +3,7 @@ use mathlib.Core.Path.{_≡_}
 use Prim.Native.Nat.{ℕ, _≤_}
 use native.Mathlib.Omega.{arith}
 use lib.Dec.{T}
+use lib.Ieee.{Float}
 use lib.IntN.{ℤ, pos, natAbs, _+ℤ_, _-ℤ_}
 use Rattle.std.specs.declared.option.Option.the-variants.{Some}
 use Rattle.scalar.proofs.Grid.{coordinate-exact}
@@ -14,7 +15,11 @@ use Rattle.voxels.specs.Sight.{coordinate, position, Exactly, ExactlyAt}
 use Rattle.voxels.proofs.Bounds.{key-bound, exponent-bound}
 use Rattle.voxels.proofs.Powers.{power-is-unit}
 
-axis-position-exact : (e key : ℤ) (g : ℕ) → T (exponentFits (Some e)) → natAbs key ≤ 4096 → g ≤ 1023 → Exactly (coordinate (powerOfTwo (e -ℤ pos 7)) key g) e key g
+-- one coordinate of a position
+abbrev pub metres : ℤ → ℤ → ℕ → Float
+metres e key g = coordinate (powerOfTwo (e -ℤ pos 7)) key g
+
+pub axis-position-exact : (e key : ℤ) (g : ℕ) → T (exponentFits (Some e)) → natAbs key ≤ 4096 → g ≤ 1023 → Exactly (metres e key g) e key g
 axis-position-exact e key g range l G =
     let k = natAbs (e +ℤ pos 10) in
     let K = exponent-bound e range in
