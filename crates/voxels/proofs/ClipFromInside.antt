@@ -1,6 +1,6 @@
 -- The clip of a line that starts within the box: on each axis it enters at zero or before and leaves at zero or later, so the clip starts at zero.
-use mathlib.Core.Path.{_≡_, refl, sym, ap, _∙_, subst, subst⁻¹}
-use mathlib.Core.Bool.{Bool, true, false, not, cond, _||_}
+use mathlib.Core.Path.{_≡_, refl, ap, _∙_}
+use mathlib.Core.Bool.{true, false, not}
 use native.Mathlib.Omega.{arith}
 use lib.Dec.{T}
 use lib.Ieee.{Float, ofBits, lt, le, eq}
@@ -17,12 +17,12 @@ use Rattle.std.specs.declared.option.Option.the-variants.{None, Some}
 use Rattle.query.specs.declared.aabb.Aabb.{Aabb}
 use Rattle.query.specs.declared.ray.Ray.{Ray}
 use Rattle.query.specs.declared.«clip_aabb_line».Side.{Side}
-use Rattle.query.specs.declared.«clip_aabb_line».Side.the-variants.{Inside, Low, High}
+use Rattle.query.specs.declared.«clip_aabb_line».Side.the-variants.{Low, High}
 use Rattle.query.specs.declared.«clip_aabb_line».Bound.{Bound}
 use Rattle.query.specs.declared.«clip_aabb_line».Interval.{Interval}
 use Rattle.query.specs.declared.«clip_aabb_line».LineClip.{LineClip}
 use Rattle.query.specs.Cast.{andThen}
-use Rattle.query.specs.Clip.{faceTime, laterEntry, earlierExit, unlessEmpty, cutBySlab, clipAxis, wholeLine, clipAlong, clipSlabs, nearNormal, farNormal, beyond, contains, standsInside, insideOnly, joinEnds, clipLine, rayParameters, clipRay}
+use Rattle.query.specs.Clip.{faceTime, laterEntry, earlierExit, unlessEmpty, cutBySlab, clipAxis, wholeLine, clipAlong, clipSlabs, nearNormal, farNormal, contains, standsInside, insideOnly, joinEnds, clipLine, rayParameters, clipRay}
 
 pub record AroundZero (near far : Float) : Type 0 where
   pub enters : T (le near zero)

@@ -1,40 +1,38 @@
 -- A look starts where its camera is: its clip starts at zero, and its first key is that of the camera's cell.
-use mathlib.Core.Path.{_≡_, refl, sym, ap, _∙_, subst, subst⁻¹}
-use mathlib.Core.Bool.{Bool, true, false, not, cond, _||_}
-use mathlib.Core.Logic.{_⊎_, inl, inr}
-use Prim.Native.Nat.{ℕ, suc, _+_, _-_, _*_, _/_, _≤_, _<_}
+use mathlib.Core.Path.{_≡_, ap, _∙_, subst, subst⁻¹}
+use mathlib.Core.Bool.{Bool, true, false, cond}
+use mathlib.Core.Logic.{inl, inr}
+use Prim.Native.Nat.{ℕ, _-_, _/_, _≤_}
 use native.Mathlib.Omega.{arith}
 use lib.Dec.{T}
-use lib.IntN.{ℤ, pos, negsuc, natAbs, _+ℤ_, _-ℤ_, _*ℤ_}
+use lib.IntN.{ℤ, pos, natAbs, _+ℤ_}
 use lib.Signed.{ltZ}
-use lib.Ieee.{Float, binary32, ofBits, lt, le, eq}
+use lib.Ieee.{Float, ofBits, lt, eq}
 use lib.Ieee.Bits.{is-false}
 use Rattle.std.proofs.shelf.Signed.{ints}
 use Rattle.std.proofs.shelf.Tests.{cases-order}
 use Rattle.std.specs.Floats as Floats
 use Rattle.std.specs.declared.option.Option.{Option}
-use Rattle.std.specs.declared.option.Option.the-variants.{None, Some}
-use Rattle.scalar.specs.Single.{minus, times, over, plus, zero, one}
+use Rattle.std.specs.declared.option.Option.the-variants.{Some}
+use Rattle.scalar.specs.Single.{minus, times, plus, zero, one}
 use Rattle.scalar.specs.Grid.{OnGrid, IsCell, place, cellKey, away}
 use Rattle.scalar.proofs.Order.{le-trans, le-of-eq, le-of-lt, lt-trans, not-lt-of-le}
 use Rattle.scalar.proofs.Grid.{offset-exact, plane-exact, zero-on-grid, grid-lt, grid-eq}
 use Rattle.scalar.proofs.Shares.{rising-enters, rising-leaves, falling-enters, falling-leaves, close-above-zero, first-key}
 use Rattle.math.specs.declared.Vector.{Vector}
-use Rattle.math.specs.declared.Axis.{Axis}
 use Rattle.math.specs.declared.Axis.the-variants.{X, Y, Z}
-use Rattle.query.specs.declared.aabb.Aabb.{Aabb}
 use Rattle.query.specs.declared.ray.Ray.{Ray}
 use Rattle.query.specs.Cast.{pointAt}
-use Rattle.query.specs.Clip.{faceTime, beyond, contains, clipRay}
+use Rattle.query.specs.Clip.{faceTime, beyond, contains}
 use Rattle.voxels.specs.declared.frame.ChunkFrame.{ChunkFrame}
 use Rattle.voxels.specs.declared.«grid_point».GridPoint.{GridPoint}
 use Rattle.voxels.specs.declared.«voxel_key».VoxelKey.{VoxelKey}
 use Rattle.voxels.specs.declared.«chunk_cast».ChunkCast.{ChunkCast}
 use Rattle.voxels.specs.Lawful.{exponentFits}
 use Rattle.voxels.specs.Power.{powerOfTwo, cube}
-use Rattle.voxels.specs.Frame.{lowestKey, corner, chunkBox, keyFloat, nearestPlace, placeOf, keyOf}
-use Rattle.voxels.specs.Chunk.{noHit, turnAt, walk, walkWithin, castClipped, chunkCast}
-use Rattle.voxels.specs.Sight.{position, sightLine, lookAt, cellOf}
+use Rattle.voxels.specs.Frame.{lowestKey, chunkBox, keyFloat, nearestPlace, placeOf, keyOf}
+use Rattle.voxels.specs.Chunk.{noHit, turnAt, walk, castClipped, chunkCast}
+use Rattle.voxels.specs.Sight.{sightLine, lookAt, cellOf}
 use Rattle.voxels.proofs.Bounds.{key-bound, exponent-bound}
 use Rattle.voxels.proofs.Powers.{power-is-cell}
 use Rattle.voxels.proofs.Positions.{metres, axis-position-exact}

@@ -1,8 +1,8 @@
 -- Sight lines between grid points of a chunk whose cells are cubes of 2^e metres.
-use mathlib.Core.Bool.{true, false}
+use mathlib.Core.Bool.{true}
 use Prim.Native.Nat.{ℕ, _/_}
 use lib.IntN.{ℤ, pos, natAbs, _+ℤ_, _-ℤ_}
-use lib.Ieee.{Float, fin, binary32, ofInt}
+use lib.Ieee.{Float, binary32, ofInt}
 use Rattle.scalar.specs.Single.{times, one}
 use Rattle.scalar.specs.Grid.{OnGrid, place}
 use Rattle.math.specs.declared.IVector.{IVector}

@@ -46,6 +46,7 @@ impl<S: CellStore> Scan<S> {
     // The solid cast from camera to target: what stops the line, and how many keys the walk stood on.
     pub fn look(&self, camera: &GridPoint, target: &GridPoint) -> ChunkCast
         ensures value { λ r. ⌜ r ≡ lookAt (now (self .entry) .exponent) (now (self .entry) .chunk .frame) (S·CellStore .kinds (now (self .entry) .chunk .cells)) (now (camera .entry)) (now (target .entry)) ⌝ }
+        ensures few { λ r. ⌜ r .visited ≤ 22 ⌝ }
     {
         let origin = self.position(camera);
         let dir = self.position(target).sub(origin);
