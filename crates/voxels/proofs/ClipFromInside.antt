@@ -82,15 +82,16 @@ whole-line-around-zero = record { enters = tt; leaves = tt }
 slabs-kept : (b : Aabb) (o d : Vector) → WithinBox b o d → (i : Interval) × (clipSlabs b o d ≡ Some i) × IntervalAroundZero i
 slabs-kept b o d w =
     let step : (a : Axis) (i : Interval) → IntervalAroundZero i → (j : Interval) × (clipAlong b o d a i ≡ Some j) × IntervalAroundZero j =
-          λ a i z. axis-kept i a (component (b .mins) a) (component (b .maxs) a) (component o a) (component d a) z (w a) in
+    λ a i z. axis-kept i a (component (b .mins) a) (component (b .maxs) a) (component o a) (component d a) z (w a) in
     let p = step X wholeLine whole-line-around-zero in
     let q = step Y (p .0) (p .2) in
-    let r = step Z (q .0) (q .2) in
-    ( r .0
-    , ap (λ (x : Option Interval). andThen x (λ i. andThen (clipAlong b o d Y i) (clipAlong b o d Z))) (p .1)
-      ∙ ap (λ (x : Option Interval). andThen x (clipAlong b o d Z)) (q .1)
-      ∙ r .1
-    , r .2)
+    let r = step Z (q .0) (q .2) in (
+      r .0,
+      ap (λ (x : Option Interval). andThen x (λ i. andThen (clipAlong b o d Y i) (clipAlong b o d Z))) (p .1)
+          ∙ ap (λ (x : Option Interval). andThen x (clipAlong b o d Z)) (q .1)
+          ∙ r .1,
+      r .2,
+    )
 
 -- ---- the ray
 abbrev ClipAroundZero : LineClip → Type 0
