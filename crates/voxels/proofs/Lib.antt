@@ -6,3 +6,7 @@ pub mod Walk
 pub mod Laws
 pub mod Powers
 pub mod Giving
+pub mod Positions
+pub mod Cubes
+pub mod ClipFromInside
+pub mod LookStart

@@ -1,15 +1,19 @@
--- The bits of a power of two.
+-- A power of two by its bits, and as a unit and a cell of the grid.
 use mathlib.Core.Path.{_≡_, refl, sym, ap, _∙_, subst}
 use mathlib.Core.Bool.{Bool, true, false, cond}
 use Prim.Native.Nat.{ℕ, suc, _+_, _-_, _*_, _/_, _%_, _^_, _≤_, _<_}
 use native.Mathlib.Omega.{arith}
 use lib.Dec.{leb, eqb}
 use lib.Count.{trailingZeros}
-use lib.IntN.{ℤ, pos, negsuc, natAbs, _+ℤ_}
+use lib.IntN.{ℤ, pos, negsuc, natAbs, _+ℤ_, _-ℤ_}
+use lib.Pow.{pow-add, pow-pos}
 use lib.Signed.{_≤ℤ_}
 use lib.Ieee.{Float, nan, inf, fin, binary32, ofBits, ofFields, odd, minus}
+use lib.Ieee.Exact.{HasValue}
 use borrow.Author.Tests.{lt-leb, ne-eqb}
 use Rattle.std.proofs.shelf.Signed.{ints}
+use Rattle.scalar.specs.Grid.{IsUnit, IsCell}
+use Rattle.scalar.proofs.Values.{value-as}
 use Rattle.voxels.specs.Power.{powerOfTwo}
 
 fields-of-power : (x : ℕ) → suc x < 255 → ofFields binary32 false (suc x) 0 ≡ fin false 1 (minus (x + 23) 149)
@@ -34,3 +38,22 @@ exponent-back x e h = grind (arith, ints)
 pub power-by-bits : (n : ℕ) (e : ℤ) → pos n ≡ e +ℤ pos 127 → 0 < n → n < 255 → ofBits binary32 (n * 8388608) ≡ powerOfTwo e
 power-by-bits ℕ.zero e h p q = absurd (omega arith)
 power-by-bits (suc x) e h p q = bits-of-power x q ∙ ap (λ (z : ℤ). fin false 1 z) (exponent-back x e h)
+
+-- ---- its value
+power-value : (e : ℤ) (k : ℕ) → e +ℤ pos 17 ≡ pos k → HasValue (powerOfTwo e) false (2 ^ k) (2 ^ 17)
+power-value (pos n) k h =
+    let s : k ≡ n + 17 = omega (arith, ints) in
+    (refl, rw s (rw (pow-add 2 n 17) (omega arith)))
+power-value (negsuc n) k h =
+    let s : 17 ≡ k + suc n = omega (arith, ints) in
+    let t : 2 ^ 17 ≡ 2 ^ k * 2 ^ suc n = ap (λ (i : ℕ). 2 ^ i) s ∙ pow-add 2 k (suc n) in
+    (refl, omega (arith, t))
+
+-- with the exponent e of a cell, k is e + 10
+pub power-is-unit : (e : ℤ) (k : ℕ) → e +ℤ pos 10 ≡ pos k → IsUnit (powerOfTwo (e -ℤ pos 7)) k
+power-is-unit e k h = power-value (e -ℤ pos 7) k (omega (arith, ints))
+
+pub power-is-cell : (e : ℤ) (k : ℕ) → e +ℤ pos 10 ≡ pos k → IsCell (powerOfTwo e) k
+power-is-cell e k h =
+    value-as (powerOfTwo e) false (2 ^ (k + 7)) (2 ^ 17) (128 * 2 ^ k) (2 ^ 17) (pow-pos 17) (rw (pow-add 2 k 7) (omega arith))
+    (power-value e (k + 7) (omega (arith, ints)))

@@ -112,3 +112,22 @@ visited-few turn (suc n) k = go (λ m. visited-few turn n m) (turn k)
     go rest (Hit h) = omega arith
     go rest Stop = omega arith
     go rest (Step m) = omega (arith, rest m)
+
+-- and a walk visits one key more than the steps that were left, at most
+pub visited-within : (turn : VoxelKey → Turn) (left : VoxelKey → ℕ) → ((k m : VoxelKey) → turn k ≡ Step m → suc (left m) ≡ left k)
+    → (n : ℕ) (k : VoxelKey) → walk turn n k .visited ≤ suc (left k)
+unfolding walk
+visited-within turn left uses zero k = omega arith
+visited-within turn left uses (suc n) k = go (λ m. visited-within turn left uses n m) (turn k) refl
+  where
+    go : ((m : VoxelKey) → walk turn n m .visited ≤ suc (left m)) → (t : Turn) → turn k ≡ t → onward (walk turn n) t .visited ≤ suc (left k)
+    go rest (Hit h) e = omega arith
+    go rest Stop e = omega arith
+    go rest (Step m) e = omega (arith, rest m, uses k m e)
+
+-- ---- 21 steps at most from a key within the chunk
+steps-on-within : (d : Float) (i : ℕ) → i ≤ 7 → stepsOn d i ≤ 7
+steps-on-within d i h = grind (arith, tells)
+
+pub steps-left-within : (d : Vector) (k : VoxelKey) → k .x ≤ 7 → k .y ≤ 7 → k .z ≤ 7 → stepsLeft d k ≤ 21
+steps-left-within d k x y z = omega (arith, steps-on-within (d .x) (k .x) x, steps-on-within (d .y) (k .y) y, steps-on-within (d .z) (k .z) z)

@@ -14,7 +14,7 @@ ghost use lib.IntN.{pos, negsuc};
 ghost use lib.Signed.{_≤ℤ_};
 ghost use Rattle.std.specs.declared.option.Option.the-variants.{Some};
 ghost use Rattle.voxels.specs.Chunk.{NamesCell};
-ghost use Rattle.voxels.specs.Sight.{coordinate, gridPosition, position, lookAt};
+ghost use Rattle.voxels.specs.Sight.{coordinate, gridPosition, position, ExactlyAt, lookAt};
 
 // Where a grid number stands on an axis of the chunk with that key.
 fn coordinate(key: i32, g: u16, unit: f32) -> f32
@@ -41,6 +41,7 @@ impl<S: CellStore> Scan<S> {
     // Where a grid point stands, in metres.
     pub fn position(&self, point: &GridPoint) -> Vector
         ensures value { λ r. ⌜ r ≡ position (now (self .entry) .exponent) (now (self .entry) .chunk .frame .key) (now (point .entry)) ⌝ }
+        ensures exact { λ r. ⌜ ExactlyAt r (now (self .entry) .exponent) (now (self .entry) .chunk .frame .key) (now (point .entry)) ⌝ }
     {
         self.chunk.frame.grid_position(point, power_of_two(self.exponent - 7))
     }
@@ -49,6 +50,7 @@ impl<S: CellStore> Scan<S> {
     pub fn look(&self, camera: &GridPoint, target: &GridPoint) -> ChunkCast
         ensures value { λ r. ⌜ r ≡ lookAt (now (self .entry) .exponent) (now (self .entry) .chunk .frame) (S·CellStore .kinds (now (self .entry) .chunk .cells)) (now (camera .entry)) (now (target .entry)) ⌝ }
         ensures named { λ r. ⌜ ((h : RayIntersection) → r .hit ≡ Some h → NamesCell (now (self .entry) .chunk .frame) (S·CellStore .kinds (now (self .entry) .chunk .cells)) h) ⌝ }
+        ensures few { λ r. ⌜ r .visited ≤ 22 ⌝ }
     {
         let origin = self.position(camera);
         let dir = self.position(target).sub(origin);
