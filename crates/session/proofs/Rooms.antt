@@ -8,11 +8,11 @@ use lib.Signed.{leZ, ltZ}
 use Rattle.std.proofs.shelf.Signed.{ints}
 use Rattle.math.specs.declared.IVector.{IVector}
 use Rattle.std.specs.declared.option.Option.the-variants.{None, Some}
-use Rattle.voxels.specs.declared.scan.Scan.{Scan}
+use Rattle.sight.specs.declared.scan.Scan.{Scan}
 use Rattle.voxels.specs.declared.refusal.Refusal.{Refusal}
 use Rattle.voxels.specs.declared.refusal.Refusal.the-variants.{BadMaking}
 use Rattle.voxels.specs.Lawful.{exponentFits, chunkFits}
-use Rattle.voxels.specs.Power.{cube}
+use Rattle.sight.specs.Power.{cube}
 use Rattle.session.specs.declared.outcome.Outcome.{Outcome}
 use Rattle.session.specs.declared.outcome.Outcome.the-variants.{Done, Refused}
 use Rattle.session.specs.Answers.{roomFits, Opens, kindsIn}

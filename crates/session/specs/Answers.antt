@@ -12,14 +12,15 @@ use Rattle.setup.specs.declared.Line.{Line}
 use Rattle.setup.specs.declared.Line.the-variants as line
 use Rattle.setup.specs.declared.Statement.{Statement}
 use Rattle.setup.specs.declared.Statement.the-variants as statement
-use Rattle.voxels.specs.declared.scan.Scan.{Scan}
-use Rattle.voxels.specs.declared.«grid_point».GridPoint.{GridPoint}
+use Rattle.sight.specs.declared.scan.Scan.{Scan}
+use Rattle.sight.specs.declared.«grid_point».GridPoint.{GridPoint}
 use Rattle.voxels.specs.declared.refusal.Refusal.the-variants.{PointOutside, BadMaking}
-use Rattle.voxels.specs.Lawful.{exponentFits, chunkFits, gridFits}
-use Rattle.voxels.specs.Power.{cube}
+use Rattle.voxels.specs.Lawful.{exponentFits, chunkFits}
+use Rattle.sight.specs.Ranges.{gridFits}
+use Rattle.sight.specs.Power.{cube}
 use Rattle.voxels.specs.Store.{withCell}
-use Rattle.voxels.specs.Cells.{cellIndex, cellAnswer}
-use Rattle.voxels.specs.Sight.{lookAt}
+use Rattle.sight.specs.Cells.{cellIndex, cellAnswer}
+use Rattle.sight.specs.Sight.{lookAt}
 use Rattle.session.specs.declared.outcome.Outcome.{Outcome}
 use Rattle.session.specs.declared.outcome.Outcome.the-variants.{Blank, Done, Refused, RoomMissing, RoomTwice, Unclear}
 use Rattle.session.specs.Outcomes.{seen, doneOr}

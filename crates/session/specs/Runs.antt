@@ -3,7 +3,7 @@ use mathlib.Core.List.{List, [], _∷_}
 use Prim.Native.Nat.{ℕ, _+_}
 use Rattle.std.specs.declared.option.Option.{Option}
 use Rattle.setup.specs.Grammar.{lineMeaning}
-use Rattle.voxels.specs.declared.scan.Scan.{Scan}
+use Rattle.sight.specs.declared.scan.Scan.{Scan}
 use Rattle.session.specs.declared.outcome.Outcome.{Outcome}
 use Rattle.session.specs.declared.outcome.Outcome.the-variants.{Blank, Done, Clear, Blocked, Refused, RoomMissing, RoomTwice, Unclear}
 use Rattle.session.specs.declared.tally.Tally.{Tally}

@@ -4,9 +4,3 @@ pub mod Making
 pub mod Bounds
 pub mod Walk
 pub mod Laws
-pub mod Powers
-pub mod Giving
-pub mod Positions
-pub mod Cubes
-pub mod ClipFromInside
-pub mod LookStart

@@ -49,17 +49,3 @@ chunkFits key size id = keysFit key && (leb id 8388607 && sizesFit size)
 -- ---- the test before a making
 abbrev pub makingAnswer : Bool → Result (Unit {0}) Refusal
 makingAnswer fits = cond fits (Ok tt) (Err BadMaking)
-
--- ---- grid points: units of 1/128 cell from the chunk's lowest corner
-abbrev pub unitFits : ℤ → Bool
-unitFits g = between (pos 0) (pos 1023) g
-
-abbrev pub gridFits : IVector → Bool
-gridFits p = unitFits (p .x) && (unitFits (p .y) && unitFits (p .z))
-
--- ---- cells by their coordinates
-abbrev pub coordinateFits : ℤ → Bool
-coordinateFits i = between (pos 0) (pos 7) i
-
-abbrev pub cellFits : IVector → Bool
-cellFits c = coordinateFits (c .x) && (coordinateFits (c .y) && coordinateFits (c .z))

@@ -4,6 +4,3 @@ pub mod Table
 pub mod Lawful
 pub mod Frame
 pub mod Chunk
-pub mod Power
-pub mod Sight
-pub mod Cells

@@ -1,8 +1,8 @@
 // A scanned corner: a chunk whose cells are cubes of 2^e metres.
-use crate::cell_store::CellStore;
-use crate::chunk::Chunk;
-use crate::frame::ChunkFrame;
-use crate::refusal::Refusal;
+use voxels::cell_store::CellStore;
+use voxels::chunk::Chunk;
+use voxels::frame::ChunkFrame;
+use voxels::refusal::Refusal;
 use math::IVector;
 use math::Vector;
 ghost use mathlib.Core.Path.{_≡_};
@@ -13,9 +13,9 @@ ghost use lib.IntN.{pos, negsuc};
 ghost use lib.Signed.{_≤ℤ_};
 ghost use Rattle.std.specs.Results.{Cases};
 ghost use Rattle.std.specs.declared.option.Option.the-variants.{Some};
 ghost use Rattle.voxels.specs.declared.refusal.Refusal.the-variants.{BadMaking};
 ghost use Rattle.voxels.specs.Lawful.{exponentFits, chunkFits};
-ghost use Rattle.voxels.specs.Power.{powerOfTwo, cube};
+ghost use Rattle.sight.specs.Power.{powerOfTwo, cube};
 
 #[derive(Drop)]
 pub struct Scan<S> {

@@ -1,9 +1,9 @@
 use mathlib.Core.Path.{_≡_, sym, subst}
 use borrow.Author.Needs.{needs}
 use Rattle.math.specs.declared.Vector.{Vector}
-use Rattle.voxels.specs.Sight.{position, ExactlyAt}
-use Rattle.voxels.proofs.Positions.{position-exact}
-use Rattle.voxels.proofs.scan.Scan.position.Needs as need
+use Rattle.sight.specs.Sight.{position, ExactlyAt}
+use Rattle.sight.proofs.Positions.{position-exact}
+use Rattle.sight.proofs.scan.Scan.position.Needs as need
 
 pub returns : need.returns
 returns g c =

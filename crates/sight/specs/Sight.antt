@@ -9,12 +9,12 @@ use Rattle.math.specs.declared.IVector.{IVector}
 use Rattle.math.specs.declared.Vector.{Vector}
 use Rattle.math.specs.Vectors.{vector, vsub}
 use Rattle.query.specs.declared.ray.Ray.{Ray}
 use Rattle.voxels.specs.declared.frame.ChunkFrame.{ChunkFrame}
-use Rattle.voxels.specs.declared.«grid_point».GridPoint.{GridPoint}
+use Rattle.sight.specs.declared.«grid_point».GridPoint.{GridPoint}
 use Rattle.voxels.specs.declared.«voxel_key».VoxelKey.{VoxelKey}
 use Rattle.voxels.specs.declared.«chunk_cast».ChunkCast.{ChunkCast}
-use Rattle.voxels.specs.Power.{powerOfTwo}
+use Rattle.sight.specs.Power.{powerOfTwo}
 use Rattle.voxels.specs.Chunk.{chunkCast}
 
 -- 1024 * key + g units
 abbrev pub coordinate : Float → ℤ → ℕ → Float

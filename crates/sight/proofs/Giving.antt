@@ -10,13 +10,13 @@ use Rattle.std.proofs.shelf.Ways.{tells}
 use Rattle.math.specs.declared.IVector.{IVector}
 use Rattle.std.specs.declared.result.Result.{Result}
 use Rattle.std.specs.declared.result.Result.the-variants.{Ok, Err}
 use Rattle.voxels.specs.declared.refusal.Refusal.{Refusal}
 use Rattle.voxels.specs.declared.refusal.Refusal.the-variants.{CellOutside, StoreFull}
 use Rattle.voxels.specs.declared.«cell_store».StoreRefusal.{StoreRefusal}
 use Rattle.voxels.specs.declared.«cell_store».StoreRefusal.the-variants.{Bad, Full}
-use Rattle.voxels.specs.Lawful.{coordinateFits, cellFits}
+use Rattle.sight.specs.Ranges.{coordinateFits, cellFits}
 use Rattle.voxels.specs.Store.{Sets, isBad, isFull, setAnswer}
-use Rattle.voxels.specs.Cells.{cellIndex, indexAnswer, cellAnswer, GivesKind}
+use Rattle.sight.specs.Cells.{cellIndex, indexAnswer, cellAnswer, GivesKind}
 
 never : {A : Type 0} → _≡_ {A = ℕ} 0 1 → A
 never z = absurd (omega arith)

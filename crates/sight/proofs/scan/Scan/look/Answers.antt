@@ -1,11 +1,11 @@
 use mathlib.Core.Path.{_≡_, subst⁻¹}
 use borrow.Author.Needs.{needs}
 use Prim.Native.Nat.{_≤_}
 use Rattle.voxels.specs.declared.«chunk_cast».ChunkCast.{ChunkCast}
-use Rattle.voxels.specs.Sight.{lookAt}
-use Rattle.voxels.proofs.Cubes.{cube-size}
-use Rattle.voxels.proofs.LookStart.{look-few}
-use Rattle.voxels.proofs.scan.Scan.look.Needs as need
+use Rattle.sight.specs.Sight.{lookAt}
+use Rattle.sight.proofs.Cubes.{cube-size}
+use Rattle.sight.proofs.LookStart.{look-few}
+use Rattle.sight.proofs.scan.Scan.look.Needs as need
 
 pub returns : need.returns
 returns g c =

@@ -6,8 +6,8 @@ use lib.IntN.{ℤ}
 use lib.Ieee.{Float}
 use Rattle.math.specs.declared.Vector.{Vector}
 use Rattle.math.specs.Vectors.{vector}
-use Rattle.voxels.specs.declared.scan.Scan.{Scan}
-use Rattle.voxels.specs.Power.{powerOfTwo, cube}
+use Rattle.sight.specs.declared.scan.Scan.{Scan}
+use Rattle.sight.specs.Power.{powerOfTwo, cube}
 
 -- an equation of floats has one proof at most
 component-of-cube : (e : ℤ) (v : Vector) (at : Vector → Float) → ∥ v ≡ cube e ∥₁ → at v ≡ at (cube e)

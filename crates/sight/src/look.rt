@@ -1,7 +1,7 @@
 // Sight lines through a scanned corner.
-use crate::cell_store::CellStore;
-use crate::chunk_cast::ChunkCast;
-use crate::frame::ChunkFrame;
+use voxels::cell_store::CellStore;
+use voxels::chunk_cast::ChunkCast;
+use voxels::frame::ChunkFrame;
 use crate::grid_point::GridPoint;
 use crate::scan::Scan;
 use crate::scan::power_of_two;
@@ -13,8 +13,8 @@ ghost use Prim.Native.Nat.{_≤_};
 ghost use lib.IntN.{pos, negsuc};
 ghost use lib.Signed.{_≤ℤ_};
 ghost use Rattle.std.specs.declared.option.Option.the-variants.{Some};
 ghost use Rattle.voxels.specs.Chunk.{NamesCell};
-ghost use Rattle.voxels.specs.Sight.{coordinate, gridPosition, position, ExactlyAt, lookAt};
+ghost use Rattle.sight.specs.Sight.{coordinate, gridPosition, position, ExactlyAt, lookAt};
 
 // Where a grid number stands on an axis of the chunk with that key.
 fn coordinate(key: i32, g: u16, unit: f32) -> f32
@@ -24,16 +24,14 @@ fn coordinate(key: i32, g: u16, unit: f32) -> f32
     (1024 * key + g as i32) as f32 * unit
 }
 
-impl ChunkFrame {
-    // Where a grid point of the chunk stands, by the size of a unit.
-    fn grid_position(&self, point: &GridPoint, unit: f32) -> Vector
-        ensures { λ r. ⌜ r ≡ gridPosition unit (now (self .entry) .key) (now (point .entry)) ⌝ }
-    {
-        Vector {
-            x: coordinate(self.key.x, point.x, unit),
-            y: coordinate(self.key.y, point.y, unit),
-            z: coordinate(self.key.z, point.z, unit),
-        }
+// Where a grid point of a chunk stands, by the size of a unit.
+fn grid_position(frame: &ChunkFrame, point: &GridPoint, unit: f32) -> Vector
+    ensures { λ r. ⌜ r ≡ gridPosition unit (now (frame .entry) .key) (now (point .entry)) ⌝ }
+{
+    Vector {
+        x: coordinate(frame.key.x, point.x, unit),
+        y: coordinate(frame.key.y, point.y, unit),
+        z: coordinate(frame.key.z, point.z, unit),
     }
 }
 
@@ -43,7 +41,7 @@ impl<S: CellStore> Scan<S> {
         ensures value { λ r. ⌜ r ≡ position (now (self .entry) .exponent) (now (self .entry) .chunk .frame .key) (now (point .entry)) ⌝ }
         ensures exact { λ r. ⌜ ExactlyAt r (now (self .entry) .exponent) (now (self .entry) .chunk .frame .key) (now (point .entry)) ⌝ }
     {
-        self.chunk.frame.grid_position(point, power_of_two(self.exponent - 7))
+        grid_position(&self.chunk.frame, point, power_of_two(self.exponent - 7))
     }
 
     // The solid cast from camera to target: what stops the line, and how many keys the walk stood on.

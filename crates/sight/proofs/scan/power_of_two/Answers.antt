@@ -5,8 +5,8 @@ use Rattle.std.proofs.shelf.Signed.{ints}
 use lib.IntN.{ℤ, pos, natAbs, _+ℤ_}
 use mir.Val.{toZ, ofZ}
 use mir.Syntax.{w32}
-use Rattle.voxels.proofs.Powers.{power-by-bits}
-use Rattle.voxels.proofs.scan.power_of_two.Needs as need
+use Rattle.sight.proofs.Powers.{power-by-bits}
+use Rattle.sight.proofs.scan.power_of_two.Needs as need
 
 pub returns : need.returns
 returns c =

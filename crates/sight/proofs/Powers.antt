@@ -14,7 +14,7 @@ use borrow.Author.Tests.{lt-leb, ne-eqb}
 use Rattle.std.proofs.shelf.Signed.{ints}
 use Rattle.scalar.specs.Grid.{IsUnit, IsCell}
 use Rattle.scalar.proofs.Values.{value-as}
-use Rattle.voxels.specs.Power.{powerOfTwo}
+use Rattle.sight.specs.Power.{powerOfTwo}
 
 fields-of-power : (x : ℕ) → suc x < 255 → ofFields binary32 false (suc x) 0 ≡ fin false 1 (minus (x + 23) 149)
 unfolding ofFields odd trailingZeros

@@ -8,11 +8,11 @@ use mir.Syntax.{w32}
 use Rattle.std.proofs.shelf.Signed.{toZ-ofZ}
 use Rattle.std.specs.declared.result.Result.{Result}
 use Rattle.std.specs.declared.result.Result.the-variants.{Ok, Err}
 use Rattle.voxels.specs.declared.refusal.Refusal.{Refusal}
 use Rattle.voxels.specs.declared.refusal.Refusal.the-variants.{CellOutside}
-use Rattle.voxels.specs.Lawful.{cellFits}
-use Rattle.voxels.specs.Cells.{cellIndex, indexAnswer}
-use Rattle.voxels.proofs.edit.cell_index.Needs as need
+use Rattle.sight.specs.Ranges.{cellFits}
+use Rattle.sight.specs.Cells.{cellIndex, indexAnswer}
+use Rattle.sight.proofs.edit.cell_index.Needs as need
 
 pub returns-then-cell-fits : need.returns-then-cell-fits
 unfolding indexAnswer

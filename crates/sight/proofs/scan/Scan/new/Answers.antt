@@ -9,10 +9,10 @@ use mir.Syntax.{w32}
 use Rattle.std.proofs.shelf.Signed.{ints}
 use Rattle.std.specs.declared.option.Option.the-variants.{Some}
 use Rattle.math.specs.Vectors.{vector}
 use Rattle.voxels.specs.Lawful.{exponentFits}
 use Rattle.voxels.specs.declared.frame.ChunkFrame.{ChunkFrame}
 use Rattle.voxels.proofs.Making.{exponent-range}
-use Rattle.voxels.proofs.scan.Scan.new.Needs as need
+use Rattle.sight.proofs.scan.Scan.new.Needs as need
 
 pub ghost-result : need.ghost-result
 ghost-result g c =

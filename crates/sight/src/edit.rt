@@ -1,13 +1,13 @@
 // Filling and emptying the cells of a scanned corner.
-use crate::cell_store::CellStore;
-use crate::cell_store::StoreRefusal;
-use crate::refusal::Refusal;
+use voxels::cell_store::CellStore;
+use voxels::cell_store::StoreRefusal;
+use voxels::refusal::Refusal;
 use crate::scan::Scan;
 use math::IVector;
 ghost use mathlib.Core.Path.{_≡_};
 ghost use Prim.Native.Nat.{_≤_};
-ghost use Rattle.voxels.specs.Lawful.{coordinateFits, cellFits};
-ghost use Rattle.voxels.specs.Cells.{indexAnswer, GivesKind};
+ghost use Rattle.sight.specs.Ranges.{coordinateFits, cellFits};
+ghost use Rattle.sight.specs.Cells.{indexAnswer, GivesKind};
 
 fn coordinate_fits(i: i32) -> bool
     ensures { λ r. ⌜ r ≡ coordinateFits i ⌝ }
