@@ -9,21 +9,26 @@ use query::ray::Ray;
 use query::ray::RayCast;
 use query::ray::RayIntersection;
 use query::ray_aabb::AabbRayCast;
+use sight::grid_point::GridPoint;
+use sight::scan::Scan;
 use std::test::*;
 use voxels::cell_store::CellStore;
 use voxels::cell_store::StoreRefusalDebug;
 use voxels::chunk::Chunk;
 use voxels::chunk_cast::ChunkCast;
 use voxels::frame::ChunkFrame;
-use sight::grid_point::GridPoint;
 use voxels::refusal::Refusal;
 use voxels::refusal::RefusalDebug;
 use voxels::refusal::RefusalPartialEq;
-use sight::scan::Scan;
 use voxels::table_store::TableStore;
 use voxels::table_store::cells::TableCellStore;
 
-fn check_hit(hit: Option<RayIntersection>, time: f32, normal: Vector, feature: FeatureId) -> Result<(), Fail> {
+fn check_hit(
+    hit: Option<RayIntersection>,
+    time: f32,
+    normal: Vector,
+    feature: FeatureId,
+) -> Result<(), Fail> {
     let hit = hit.ok_or("no hit")?;
     check_eq(hit.time_of_impact, time)?;
     check_eq(hit.normal.x, normal.x)?;
@@ -46,7 +51,11 @@ fn box_from_outside() -> Result<(), Fail> {
     let ray = along_x(-3.0);
     let hit = cube_at_origin().cast_local_ray_and_get_normal(&ray, 2.0, true);
     check_hit(hit, 2.0, Vector::new(-1.0, 0.0, 0.0), FeatureId::Face(0))?;
-    check(cube_at_origin().cast_local_ray_and_get_normal(&ray, 1.5, true).is_none())
+    check(
+        cube_at_origin()
+            .cast_local_ray_and_get_normal(&ray, 1.5, true)
+            .is_none(),
+    )
 }
 
 #[test]
@@ -56,7 +65,11 @@ fn box_from_inside() -> Result<(), Fail> {
     check_hit(hit, 0.0, Vector::zero(), FeatureId::Face(3))?;
     let hit = cube_at_origin().cast_local_ray_and_get_normal(&ray, 10.0, false);
     check_hit(hit, 1.0, Vector::new(-1.0, 0.0, 0.0), FeatureId::Face(3))?;
-    check(cube_at_origin().cast_local_ray_and_get_normal(&ray, 0.5, false).is_none())?;
+    check(
+        cube_at_origin()
+            .cast_local_ray_and_get_normal(&ray, 0.5, false)
+            .is_none(),
+    )?;
     let still = Ray::new(Vector::zero(), Vector::zero());
     let hit = cube_at_origin().cast_local_ray_and_get_normal(&still, 10.0, true);
     check_hit(hit, 0.0, Vector::zero(), FeatureId::Unknown)
@@ -80,11 +93,21 @@ fn look_past(cell: IVector, target: &GridPoint) -> Result<ChunkCast, Refusal> {
 #[test]
 fn looks() -> Result<(), Fail> {
     let cast = look_past(IVector { x: 3, y: 0, z: 0 }, &grid_point(576, 64, 64)?)?;
-    check_hit(cast.hit, 0.625, Vector::new(-1.0, 0.0, 0.0), FeatureId::Face(3))?;
+    check_hit(
+        cast.hit,
+        0.625,
+        Vector::new(-1.0, 0.0, 0.0),
+        FeatureId::Face(3),
+    )?;
     check_eq(cast.visited, 4)?;
     let across = grid_point(192, 192, 64)?;
     let cast = look_past(IVector { x: 1, y: 0, z: 0 }, &across)?;
-    check_hit(cast.hit, 0.5, Vector::new(-1.0, 0.0, 0.0), FeatureId::Face(1))?;
+    check_hit(
+        cast.hit,
+        0.5,
+        Vector::new(-1.0, 0.0, 0.0),
+        FeatureId::Face(1),
+    )?;
     check_eq(cast.visited, 2)?;
     let cast = look_past(IVector { x: 0, y: 1, z: 0 }, &across)?;
     check(cast.hit.is_none())?;
@@ -95,7 +118,11 @@ fn looks() -> Result<(), Fail> {
 const FINE: f32 = 1.0 / 2097152.0;
 
 fn chunk_of(size: f32) -> Result<Chunk<TableStore>, Refusal> {
-    let frame = ChunkFrame::new(IVector { x: 0, y: 0, z: 0 }, Vector::new(size, size, size), 0)?;
+    let frame = ChunkFrame::new(
+        IVector { x: 0, y: 0, z: 0 },
+        Vector::new(size, size, size),
+        0,
+    )?;
     Ok(Chunk::new(frame))
 }
 
@@ -104,10 +131,18 @@ fn chunk_of(size: f32) -> Result<Chunk<TableStore>, Refusal> {
 fn face_behind_the_origin() -> Result<(), Fail> {
     let mut chunk = chunk_of(1.5 + FINE)?;
     chunk.cells.set(2, 1)?;
-    let ray = Ray::new(Vector::new(7.5 + 5.0 * FINE, 1.0, 1.0), Vector::new(-1.0, 0.0, 0.0));
+    let ray = Ray::new(
+        Vector::new(7.5 + 5.0 * FINE, 1.0, 1.0),
+        Vector::new(-1.0, 0.0, 0.0),
+    );
     for solid in [true, false] {
         let cast = chunk.cast_ray(&ray, 10.0, solid);
-        check_hit(cast.hit, 3.0 + 2.0 * FINE, Vector::new(1.0, 0.0, 0.0), FeatureId::Face(2))?;
+        check_hit(
+            cast.hit,
+            3.0 + 2.0 * FINE,
+            Vector::new(1.0, 0.0, 0.0),
+            FeatureId::Face(2),
+        )?;
         check_eq(cast.visited, 4)?;
     }
     Ok(())
@@ -121,12 +156,42 @@ fn full_corner_from_six_sides() -> Result<(), Fail> {
         chunk.cells.set(n, 1)?;
     }
     let sides = [
-        (Vector::new(-3.0, 2.5, 4.5), Vector::new(-1.0, 0.0, 0.0), 272, 1),
-        (Vector::new(11.0, 2.5, 4.5), Vector::new(1.0, 0.0, 0.0), 279, 2),
-        (Vector::new(2.5, -3.0, 4.5), Vector::new(0.0, -1.0, 0.0), 258, 1),
-        (Vector::new(2.5, 11.0, 4.5), Vector::new(0.0, 1.0, 0.0), 314, 2),
-        (Vector::new(2.5, 4.5, -3.0), Vector::new(0.0, 0.0, -1.0), 34, 1),
-        (Vector::new(2.5, 4.5, 11.0), Vector::new(0.0, 0.0, 1.0), 482, 2),
+        (
+            Vector::new(-3.0, 2.5, 4.5),
+            Vector::new(-1.0, 0.0, 0.0),
+            272,
+            1,
+        ),
+        (
+            Vector::new(11.0, 2.5, 4.5),
+            Vector::new(1.0, 0.0, 0.0),
+            279,
+            2,
+        ),
+        (
+            Vector::new(2.5, -3.0, 4.5),
+            Vector::new(0.0, -1.0, 0.0),
+            258,
+            1,
+        ),
+        (
+            Vector::new(2.5, 11.0, 4.5),
+            Vector::new(0.0, 1.0, 0.0),
+            314,
+            2,
+        ),
+        (
+            Vector::new(2.5, 4.5, -3.0),
+            Vector::new(0.0, 0.0, -1.0),
+            34,
+            1,
+        ),
+        (
+            Vector::new(2.5, 4.5, 11.0),
+            Vector::new(0.0, 0.0, 1.0),
+            482,
+            2,
+        ),
     ];
     for (origin, normal, cell, visited) in sides {
         let cast = chunk.cast_ray(&Ray::new(origin, normal.neg()), 10.0, true);
@@ -146,7 +211,10 @@ fn marked_seen_wiped_clear() -> Result<(), Fail> {
     corner.mark(cell)?;
     let seen = corner.look(&camera, &cot).hit.ok_or("not seen")?;
     check_eq(seen.feature, FeatureId::Face(36))?;
-    check_eq(corner.mark(IVector { x: 4, y: 8, z: 0 }), Err(Refusal::CellOutside))?;
+    check_eq(
+        corner.mark(IVector { x: 4, y: 8, z: 0 }),
+        Err(Refusal::CellOutside),
+    )?;
     check(corner.look(&camera, &cot).hit.is_some())?;
     corner.wipe(cell)?;
     check(corner.look(&camera, &cot).hit.is_none())

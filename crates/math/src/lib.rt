@@ -35,7 +35,11 @@ impl Vector {
     pub fn zero() -> Vector
         ensures { λ r. ⌜ r ≡ zeroVector ⌝ }
     {
-        Vector { x: 0.0, y: 0.0, z: 0.0 }
+        Vector {
+            x: 0.0,
+            y: 0.0,
+            z: 0.0,
+        }
     }
 
     // The vector along an axis, of the given length.
@@ -43,9 +47,21 @@ impl Vector {
         ensures { λ r. ⌜ r ≡ along axis length ⌝ }
     {
         match axis {
-            Axis::X => Vector { x: length, y: 0.0, z: 0.0 },
-            Axis::Y => Vector { x: 0.0, y: length, z: 0.0 },
-            Axis::Z => Vector { x: 0.0, y: 0.0, z: length },
+            Axis::X => Vector {
+                x: length,
+                y: 0.0,
+                z: 0.0,
+            },
+            Axis::Y => Vector {
+                x: 0.0,
+                y: length,
+                z: 0.0,
+            },
+            Axis::Z => Vector {
+                x: 0.0,
+                y: 0.0,
+                z: length,
+            },
         }
     }
 
@@ -62,25 +78,41 @@ impl Vector {
     pub fn add(self, other: Vector) -> Vector
         ensures { λ r. ⌜ r ≡ vadd self other ⌝ }
     {
-        Vector { x: self.x + other.x, y: self.y + other.y, z: self.z + other.z }
+        Vector {
+            x: self.x + other.x,
+            y: self.y + other.y,
+            z: self.z + other.z,
+        }
     }
 
     pub fn sub(self, other: Vector) -> Vector
         ensures { λ r. ⌜ r ≡ vsub self other ⌝ }
     {
-        Vector { x: self.x - other.x, y: self.y - other.y, z: self.z - other.z }
+        Vector {
+            x: self.x - other.x,
+            y: self.y - other.y,
+            z: self.z - other.z,
+        }
     }
 
     pub fn scale(self, factor: f32) -> Vector
         ensures { λ r. ⌜ r ≡ vscale self factor ⌝ }
     {
-        Vector { x: self.x * factor, y: self.y * factor, z: self.z * factor }
+        Vector {
+            x: self.x * factor,
+            y: self.y * factor,
+            z: self.z * factor,
+        }
     }
 
     pub fn neg(self) -> Vector
         ensures { λ r. ⌜ r ≡ vneg self ⌝ }
     {
-        Vector { x: -self.x, y: -self.y, z: -self.z }
+        Vector {
+            x: -self.x,
+            y: -self.y,
+            z: -self.z,
+        }
     }
 
     // The dot product, summed from x to z.

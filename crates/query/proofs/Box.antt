@@ -53,6 +53,7 @@ box-kept b r reach longer solid l e = go (clipLine b (r .origin) (r .dir)) e
     same : (o : Option LinePoint) → isSome (andThen o boxHit) ≡ isSome o
     same None = refl
     same (Some p) = refl
+
     go : (o : Option LineClip) → isSome (andThen o (λ c. andThen (boxPoint c reach solid) boxHit)) ≡ true → isSome (andThen o (λ c. andThen (boxPoint c longer solid) boxHit)) ≡ true
     go None e = e
     go (Some c) e = same (boxPoint c longer solid) ∙ point-kept c reach longer solid l (sym (same (boxPoint c reach solid)) ∙ e)

@@ -57,10 +57,11 @@ axis-sound i j a low high o d s e = go (faceTime low o d) (faceTime high o d) (e
     cut t u p q =
         unless-empty-sound (record { near = laterEntry (i .near) t p; far = earlierExit (i .far) u q }) j
         (entry-number (i .near) t p (s .near-number)) (exit-number (i .far) u q (le-right zero (i .far .time) (s .far-not-below-zero)))
+
     go : (t u : Float) (still out flipped : Bool)
         → cond still (cond out None (Some i))
-          (cond flipped (unlessEmpty (record { near = laterEntry (i .near) u (High a); far = earlierExit (i .far) t (Low a) }))
-          (unlessEmpty (record { near = laterEntry (i .near) t (Low a); far = earlierExit (i .far) u (High a) }))) ≡ Some j → SoundInterval j
+        (cond flipped (unlessEmpty (record { near = laterEntry (i .near) u (High a); far = earlierExit (i .far) t (Low a) }))
+        (unlessEmpty (record { near = laterEntry (i .near) t (Low a); far = earlierExit (i .far) u (High a) }))) ≡ Some j → SoundInterval j
     go t u true true flipped e = none-is-not-some j e
     go t u true false flipped e = let q : i ≡ j = cc in subst SoundInterval q s
     go t u false out true e = cut u t (High a) (Low a) e

@@ -22,7 +22,10 @@ impl Aabb {
     pub fn from_half_extents(center: Vector, half_extents: Vector) -> Aabb
         ensures { λ r. ⌜ r ≡ aroundCentre center «half_extents» ⌝ }
     {
-        Aabb { mins: center.sub(half_extents), maxs: center.add(half_extents) }
+        Aabb {
+            mins: center.sub(half_extents),
+            maxs: center.add(half_extents),
+        }
     }
 
     // Whether the point lies within the box, faces included. A NaN is on no side of a face, so it passes.

@@ -64,9 +64,17 @@ fn later_entry(bound: Bound, time: f32, side: Side) -> Bound
     ensures { λ r. ⌜ r ≡ laterEntry bound time side ⌝ }
 {
     if time > bound.time {
-        Bound { time, side, edge: false }
+        Bound {
+            time,
+            side,
+            edge: false,
+        }
     } else if time == bound.time {
-        Bound { time: bound.time, side: bound.side, edge: true }
+        Bound {
+            time: bound.time,
+            side: bound.side,
+            edge: true,
+        }
     } else {
         bound
     }
@@ -76,9 +84,17 @@ fn earlier_exit(bound: Bound, time: f32, side: Side) -> Bound
     ensures { λ r. ⌜ r ≡ earlierExit bound time side ⌝ }
 {
     if time < bound.time {
-        Bound { time, side, edge: false }
+        Bound {
+            time,
+            side,
+            edge: false,
+        }
     } else if time == bound.time {
-        Bound { time: bound.time, side: bound.side, edge: true }
+        Bound {
+            time: bound.time,
+            side: bound.side,
+            edge: true,
+        }
     } else {
         bound
     }
@@ -111,14 +127,30 @@ fn cut_by_slab(interval: Interval, axis: Axis, low: f32, high: f32) -> Option<In
     }
 }
 
-fn clip_axis(interval: Interval, axis: Axis, low: f32, high: f32, origin: f32, dir: f32) -> Option<Interval>
+fn clip_axis(
+    interval: Interval,
+    axis: Axis,
+    low: f32,
+    high: f32,
+    origin: f32,
+    dir: f32,
+) -> Option<Interval>
     ensures { λ r. ⌜ r ≡ clipAxis interval axis low high origin dir ⌝ }
 {
     if dir == 0.0 {
-        if origin < low || origin > high { None } else { Some(interval) }
+        if origin < low || origin > high {
+            None
+        } else {
+            Some(interval)
+        }
     } else {
         let denom = 1.0 / dir;
-        cut_by_slab(interval, axis, (low - origin) * denom, (high - origin) * denom)
+        cut_by_slab(
+            interval,
+            axis,
+            (low - origin) * denom,
+            (high - origin) * denom,
+        )
     }
 }
 
@@ -126,8 +158,16 @@ fn clip_slabs(aabb: &Aabb, origin: Vector, dir: Vector) -> Option<Interval>
     ensures { λ r. ⌜ r ≡ clipSlabs (now (aabb .entry)) origin dir ⌝ }
 {
     let line = Interval {
-        near: Bound { time: -f32::MAX, side: Side::Inside, edge: false },
-        far: Bound { time: f32::MAX, side: Side::Inside, edge: false },
+        near: Bound {
+            time: -f32::MAX,
+            side: Side::Inside,
+            edge: false,
+        },
+        far: Bound {
+            time: f32::MAX,
+            side: Side::Inside,
+            edge: false,
+        },
     };
     let line = clip_axis(line, Axis::X, aabb.mins.x, aabb.maxs.x, origin.x, dir.x)?;
     let line = clip_axis(line, Axis::Y, aabb.mins.y, aabb.maxs.y, origin.y, dir.y)?;
@@ -168,8 +208,15 @@ fn inside_only(aabb: &Aabb, origin: Vector) -> Option<LineClip>
     if !aabb.contains_local_point(origin) {
         return None;
     }
-    let zero = LinePoint { time: 0.0, normal: Vector::zero(), side: Side::Inside };
-    Some(LineClip { near: zero, far: zero })
+    let zero = LinePoint {
+        time: 0.0,
+        normal: Vector::zero(),
+        side: Side::Inside,
+    };
+    Some(LineClip {
+        near: zero,
+        far: zero,
+    })
 }
 
 // The two ends of the line's part within the box, none where the line misses the box or lies wholly before its origin.
@@ -185,7 +232,15 @@ pub fn clip_aabb_line(aabb: &Aabb, origin: Vector, dir: Vector) -> Option<LineCl
         return inside_only(aabb, origin);
     };
     Some(LineClip {
-        near: LinePoint { time: line.near.time, normal: near, side: line.near.side },
-        far: LinePoint { time: line.far.time, normal: far, side: line.far.side },
+        near: LinePoint {
+            time: line.near.time,
+            normal: near,
+            side: line.near.side,
+        },
+        far: LinePoint {
+            time: line.far.time,
+            normal: far,
+            side: line.far.side,
+        },
     })
 }

@@ -47,7 +47,11 @@ impl RayIntersection {
     pub fn new(time_of_impact: f32, normal: Vector, feature: FeatureId) -> RayIntersection
         ensures { λ r. ⌜ r ≡ hit «time_of_impact» normal feature ⌝ }
     {
-        RayIntersection { time_of_impact, normal, feature }
+        RayIntersection {
+            time_of_impact,
+            normal,
+            feature,
+        }
     }
 }
 
@@ -63,6 +67,11 @@ pub trait RayCast {
 
     law kept: { (x : Self) (r : Ray) (reach longer : Float) (solid : Bool) → NotBelowZero reach → T (le reach longer) → isSome (casts x r reach solid) ≡ true → isSome (casts x r longer solid) ≡ true };
 
-    fn cast_local_ray_and_get_normal(&self, ray: &Ray, max_time_of_impact: f32, solid: bool) -> Option<RayIntersection>
+    fn cast_local_ray_and_get_normal(
+        &self,
+        ray: &Ray,
+        max_time_of_impact: f32,
+        solid: bool,
+    ) -> Option<RayIntersection>
         ensures { λ r. ⌜ r ≡ casts (now (self .entry)) (now (ray .entry)) «max_time_of_impact» solid ⌝ };
 }

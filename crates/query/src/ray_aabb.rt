@@ -33,7 +33,11 @@ fn ray_aabb(clip: LineClip, max_time_of_impact: f32, solid: bool) -> Option<Line
 {
     if clip.near.time < 0.0 {
         if solid {
-            Some(LinePoint { time: 0.0, normal: Vector::zero(), side: clip.far.side })
+            Some(LinePoint {
+                time: 0.0,
+                normal: Vector::zero(),
+                side: clip.far.side,
+            })
         } else if clip.far.time <= max_time_of_impact {
             Some(clip.far)
         } else {
@@ -49,7 +53,12 @@ fn ray_aabb(clip: LineClip, max_time_of_impact: f32, solid: bool) -> Option<Line
 pub impl RayCast for Aabb as AabbRayCast {
     ghost casts = { boxCast };
 
-    fn cast_local_ray_and_get_normal(&self, ray: &Ray, max_time_of_impact: f32, solid: bool) -> Option<RayIntersection> {
+    fn cast_local_ray_and_get_normal(
+        &self,
+        ray: &Ray,
+        max_time_of_impact: f32,
+        solid: bool,
+    ) -> Option<RayIntersection> {
         let clip = clip_aabb_line(self, ray.origin, ray.dir)?;
         let point = ray_aabb(clip, max_time_of_impact, solid)?;
         Some(RayIntersection::new(point.time, point.normal, side_feature(point.side)))

@@ -1,4 +1,5 @@
 -- What a sight line and a change of a cell come to.
+use mathlib.Core.Bool.{Bool, true, false}
 use Prim.Native.Nat.{ℕ, _%_}
 use lib.Ieee.{Float}
 use Rattle.query.specs.declared.ray.RayIntersection.{RayIntersection}
@@ -11,7 +12,7 @@ use Rattle.std.specs.declared.result.Result.the-variants.{Ok, Err}
 use Rattle.voxels.specs.declared.«chunk_cast».ChunkCast.{ChunkCast}
 use Rattle.voxels.specs.declared.refusal.Refusal.{Refusal}
 use Rattle.session.specs.declared.outcome.Outcome.{Outcome}
-use Rattle.session.specs.declared.outcome.Outcome.the-variants.{Done, Clear, Blocked, Refused}
+use Rattle.session.specs.declared.outcome.Outcome.the-variants.{Blank, Done, Clear, Blocked, Refused, RoomMissing, RoomTwice, Unclear}
 
 -- A chunk's hit is at the face id * 512 + cell number; 512 is no cell.
 abbrev pub hitCell : FeatureId → ℕ
@@ -30,3 +31,13 @@ seen c = sightOutcome (c .hit) (c .visited)
 abbrev pub doneOr : Result (Unit {0}) Refusal → Outcome
 doneOr (Ok u) = Done
 doneOr (Err r) = Refused r
+
+abbrev pub isSight : Outcome → Bool
+isSight Blank = false
+isSight Done = false
+isSight (Clear visited) = true
+isSight (Blocked cell time visited) = true
+isSight (Refused r) = false
+isSight RoomMissing = false
+isSight RoomTwice = false
+isSight (Unclear wanted) = false

@@ -4,3 +4,5 @@ pub mod outcome;
 pub mod run;
 pub mod session;
 pub mod tally;
+#[cfg(test)]
+mod tests;

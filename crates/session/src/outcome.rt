@@ -1,6 +1,8 @@
 // What a line of a setup file comes to.
 use setup::Expected;
 use voxels::refusal::Refusal;
+ghost use mathlib.Core.Path.{_≡_};
+ghost use Rattle.session.specs.Outcomes.{isSight};
 
 #[derive(Clone, Copy)]
 pub enum Outcome {
@@ -19,4 +21,21 @@ pub enum Outcome {
     RoomTwice,
     // A line that is no statement.
     Unclear(Expected),
+}
+
+impl Outcome {
+    // Whether it answers a sight line.
+    pub fn is_sight(&self) -> bool
+        ensures { λ r. ⌜ r ≡ isSight (now (self .entry)) ⌝ }
+    {
+        match self {
+            Outcome::Clear { visited: _ }
+            | Outcome::Blocked {
+                cell: _,
+                time: _,
+                visited: _,
+            } => true,
+            _ => false,
+        }
+    }
 }

@@ -5,11 +5,11 @@ use query::feature_id::FeatureId;
 use setup::Line;
 use setup::Statement;
 use setup::parse_line;
+use sight::grid_point::GridPoint;
+use sight::scan::Scan;
 use voxels::cell_store::CellStore;
 use voxels::chunk_cast::ChunkCast;
-use sight::grid_point::GridPoint;
 use voxels::refusal::Refusal;
-use sight::scan::Scan;
 ghost use mathlib.Core.Path.{_≡_};
 ghost use Prim.Native.Nat.{ℕ};
 ghost use Rattle.std.specs.declared.option.Option.the-variants.{None};
@@ -40,9 +40,15 @@ fn sight<S: CellStore>(scan: &Scan<S>, camera: IVector, target: IVector) -> Outc
     };
     let cast = scan.look(&from, &to);
     match cast.hit {
-        None => Outcome::Clear { visited: cast.visited },
+        None => Outcome::Clear {
+            visited: cast.visited,
+        },
         Some(hit) => match hit.feature {
-            FeatureId::Face(face) => Outcome::Blocked { cell: (face % 512) as u16, time: hit.time_of_impact, visited: cast.visited },
+            FeatureId::Face(face) => Outcome::Blocked {
+                cell: (face % 512) as u16,
+                time: hit.time_of_impact,
+                visited: cast.visited,
+            },
             // a chunk's hit names a face
             _ => unreachable(),
         },
@@ -54,7 +60,11 @@ fn in_corner<S: CellStore>(scan: &mut Scan<S>, statement: Statement) -> Outcome
     ensures { λ o. ⌜ InCorner (S·CellStore .kinds) (S·CellStore .capacity) (now (scan .entry)) statement o (now (scan .exit)) ⌝ }
 {
     match statement {
-        Statement::Room { exponent: _, key: _, id: _ } => Outcome::RoomTwice,
+        Statement::Room {
+            exponent: _,
+            key: _,
+            id: _,
+        } => Outcome::RoomTwice,
         Statement::Mark { cell } => done_or(scan.mark(cell)),
         Statement::Wipe { cell } => done_or(scan.wipe(cell)),
         Statement::Sight { camera, target } => sight(scan, camera, target),

@@ -21,7 +21,11 @@ fn counted(tally: Tally, outcome: Outcome) -> Tally
     match outcome {
         Outcome::Blank | Outcome::Done => {}
         Outcome::Clear { visited: _ } => tally.clear += 1,
-        Outcome::Blocked { cell: _, time: _, visited: _ } => tally.blocked += 1,
+        Outcome::Blocked {
+            cell: _,
+            time: _,
+            visited: _,
+        } => tally.blocked += 1,
         Outcome::Refused(_) | Outcome::RoomMissing | Outcome::RoomTwice => tally.refused += 1,
         Outcome::Unclear(_) => tally.unclear += 1,
     }
@@ -32,7 +36,12 @@ fn counted(tally: Tally, outcome: Outcome) -> Tally
 pub fn tally_of(outcomes: &[Outcome]) -> Tally
     ensures { λ r. ⌜ r ≡ folded tallied noneYet (now (outcomes .entry)) ⌝ }
 {
-    let mut tally = Tally { clear: 0, blocked: 0, refused: 0, unclear: 0 };
+    let mut tally = Tally {
+        clear: 0,
+        blocked: 0,
+        refused: 0,
+        unclear: 0,
+    };
     for outcome in outcomes {
         tally = counted(tally, *outcome);
     }

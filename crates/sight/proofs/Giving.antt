@@ -68,11 +68,11 @@ module _ (before after : ℕ → ℕ) (capacity : ℕ) (c : IVector) (n kind : �
   pub given : Sets before after capacity n kind (Ok tt) → GivesKind before after capacity c kind (Ok tt)
   unfolding cellAnswer
   given s = record {
-      answer =
+    answer =
         let full : isFull before capacity (cellIndex c) kind ≡ false = subst (λ (i : ℕ). isFull before capacity i kind ≡ false) is (go (isFull before capacity n kind) (s .answer ∙ ap (λ (b : Bool). cond b (Err Bad) (cond (isFull before capacity n kind) (Err Full) (Ok tt))) good)) in
         rw (fits, full) refl;
-      cells = λ m. subst (λ (i : ℕ). after m ≡ Rattle.voxels.specs.Store.withCell before i kind m) is (s .cells m);
-    }
+    cells = λ m. subst (λ (i : ℕ). after m ≡ Rattle.voxels.specs.Store.withCell before i kind m) is (s .cells m);
+  }
     where
       go : (b : Bool) → _≡_ {A = Result (Unit {0}) StoreRefusal} (Ok tt) (cond b (Err Full) (Ok tt)) → b ≡ false
       go true e = never cc
@@ -81,11 +81,11 @@ module _ (before after : ℕ → ℕ) (capacity : ℕ) (c : IVector) (n kind : �
   pub full-changes-nothing : Sets before after capacity n kind (Err Full) → GivesKind before after capacity c kind (Err StoreFull)
   unfolding cellAnswer
   full-changes-nothing s = record {
-      answer =
+    answer =
         let full : isFull before capacity (cellIndex c) kind ≡ true = subst (λ (i : ℕ). isFull before capacity i kind ≡ true) is (go (isFull before capacity n kind) (s .answer ∙ ap (λ (b : Bool). cond b (Err Bad) (cond (isFull before capacity n kind) (Err Full) (Ok tt))) good)) in
         rw (fits, full) refl;
-      cells = λ m. s .cells m;
-    }
+    cells = λ m. s .cells m;
+  }
     where
       go : (b : Bool) → _≡_ {A = Result (Unit {0}) StoreRefusal} (Err Full) (cond b (Err Full) (Ok tt)) → b ≡ true
       go true e = refl

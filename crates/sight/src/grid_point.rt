@@ -1,6 +1,6 @@
 // Points of the grid on which sight lines begin and end.
-use voxels::refusal::Refusal;
 use math::IVector;
+use voxels::refusal::Refusal;
 ghost use mathlib.Core.Path.{_≡_};
 ghost use mathlib.Core.Bool.{true, false};
 ghost use Prim.Native.Nat.{_≤_};
@@ -36,7 +36,11 @@ impl GridPoint {
         ensures { λ r. ⌜ Cases r (λ p. (gridFits point ≡ true) × ((pos (p .x) ≡ point .x) × ((pos (p .y) ≡ point .y) × (pos (p .z) ≡ point .z)))) (λ e. (gridFits point ≡ false) × (e ≡ PointOutside)) ⌝ }
     {
         if grid_fits(point) {
-            Ok(GridPoint { x: point.x as u16, y: point.y as u16, z: point.z as u16 })
+            Ok(GridPoint {
+                x: point.x as u16,
+                y: point.y as u16,
+                z: point.z as u16,
+            })
         } else {
             Err(Refusal::PointOutside)
         }

@@ -1,10 +1,10 @@
 // A scanned corner: a chunk whose cells are cubes of 2^e metres.
+use math::IVector;
+use math::Vector;
 use voxels::cell_store::CellStore;
 use voxels::chunk::Chunk;
 use voxels::frame::ChunkFrame;
 use voxels::refusal::Refusal;
-use math::IVector;
-use math::Vector;
 ghost use mathlib.Core.Path.{_≡_};
 ghost use mathlib.Core.Bool.{true, false, _&&_};
 ghost use Prim.Native.Nat.{ℕ};
@@ -37,16 +37,23 @@ impl<S: CellStore> Scan<S> {
     // A corner of empty cells.
     pub fn new(exponent: i32, key: IVector, id: u32) -> Result<Scan<S>, Refusal>
         ensures { λ r. ⌜ Cases r
-          (λ s. ((exponentFits (Some exponent) && chunkFits key (cube exponent) id) ≡ true) × ((s .exponent ≡ exponent) × ((s .chunk .frame .key ≡ key) × ((s .chunk .frame .id ≡ id) × ((n : ℕ) → S·CellStore .kinds (s .chunk .cells) n ≡ 0)))))
-          (λ e. ((exponentFits (Some exponent) && chunkFits key (cube exponent) id) ≡ false) × (e ≡ BadMaking)) ⌝ }
+            (λ s. ((exponentFits (Some exponent) && chunkFits key (cube exponent) id) ≡ true) × ((s .exponent ≡ exponent) × ((s .chunk .frame .key ≡ key) × ((s .chunk .frame .id ≡ id) × ((n : ℕ) → S·CellStore .kinds (s .chunk .cells) n ≡ 0)))))
+            (λ e. ((exponentFits (Some exponent) && chunkFits key (cube exponent) id) ≡ false) × (e ≡ BadMaking)) ⌝ }
     {
         if exponent < -10 || exponent > 10 {
             return Err(Refusal::BadMaking);
         }
         let size = power_of_two(exponent);
-        let voxel_size = Vector { x: size, y: size, z: size };
+        let voxel_size = Vector {
+            x: size,
+            y: size,
+            z: size,
+        };
         match ChunkFrame::new(key, voxel_size, id) {
-            Ok(frame) => Ok(Scan { exponent, chunk: Chunk::new(frame) }),
+            Ok(frame) => Ok(Scan {
+                exponent,
+                chunk: Chunk::new(frame),
+            }),
             Err(refusal) => Err(refusal),
         }
     }

@@ -24,19 +24,15 @@ fn setup_text(rt: &LibcRuntime) -> io::Result<Vec<u8>> {
     }
 }
 
-// Prints what a line came to; the answer where it was a sight line, with its number among these.
+// Prints what a line came to, if that is to be read out: a sight line with its number among these, another with the number of its line.
 fn print_outcome(rt: &LibcRuntime, line: usize, sight: usize, outcome: &Outcome) -> io::Result<()> {
+    if outcome.is_sight() {
+        return println!(rt, "sight {sight} (line {line}): {outcome}");
+    }
     match outcome {
         Outcome::Blank | Outcome::Done => Ok(()),
-        Outcome::Clear { visited: _ } | Outcome::Blocked { cell: _, time: _, visited: _ } => {
-            println!(rt, "sight {sight} (line {line}): {outcome}")
-        }
         _ => println!(rt, "line {line}: {outcome}"),
     }
-}
-
-fn is_sight(outcome: &Outcome) -> bool {
-    matches!(outcome, Outcome::Clear { visited: _ } | Outcome::Blocked { cell: _, time: _, visited: _ })
 }
 
 fn check(rt: &LibcRuntime) -> Result<(), AnyError> {
@@ -46,7 +42,7 @@ fn check(rt: &LibcRuntime) -> Result<(), AnyError> {
     let mut sights = 0usize;
     for outcome in outcomes.as_slice() {
         line = line.saturating_add(1);
-        if is_sight(outcome) {
+        if outcome.is_sight() {
             sights = sights.saturating_add(1);
         }
         print_outcome(rt, line, sights, outcome)?;
@@ -56,7 +52,10 @@ fn check(rt: &LibcRuntime) -> Result<(), AnyError> {
     let blocked = tally.blocked;
     let refused = tally.refused;
     let unclear = tally.unclear;
-    println!(rt, "{sights} sight lines: {clear} clear, {blocked} blocked. {refused} lines refused, {unclear} not understood.")?;
+    println!(
+        rt,
+        "{sights} sight lines: {clear} clear, {blocked} blocked. {refused} lines refused, {unclear} not understood."
+    )?;
     Ok(())
 }
 

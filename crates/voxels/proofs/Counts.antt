@@ -22,9 +22,9 @@ pub filled-lt : (n : ℕ) (kinds : ℕ → ℕ) (m : ℕ) → m < n → kinds m 
 unfolding filledBelow
 filled-lt zero kinds m h e = absurd (omega arith)
 filled-lt (suc n) kinds m h e =
-    elim (cases-eq m n)
-    [ inl same ↦
-        let z : kinds n ≡ 0 = ap kinds (sym same) ∙ e in
-        rw (eq-eqb (kinds n) 0 z) (omega (arith, filled-le n kinds))
-    | inr other ↦ omega (arith, filled-lt n kinds m (omega arith) e, at-most-one (eqb (kinds n) 0))
+    elim (cases-eq m n) [
+      | inl same ↦
+          let z : kinds n ≡ 0 = ap kinds (sym same) ∙ e in
+          rw (eq-eqb (kinds n) 0 z) (omega (arith, filled-le n kinds))
+      | inr other ↦ omega (arith, filled-lt n kinds m (omega arith) e, at-most-one (eqb (kinds n) 0))
     ]

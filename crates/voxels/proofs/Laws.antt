@@ -91,6 +91,7 @@ chunk-named f kinds r reach solid h e = go (clipRay (chunkBox f) r) e
         let limit = Floats.least (clip .1) reach in
         walk-hit (turnAt f kinds r limit solid) (NamesCell f kinds) (λ k g s. cell-named f kinds r limit solid k g (turn-hit f kinds r limit solid k g s))
         25 (keyOf f (Rattle.query.specs.Cast.pointAt r (clip .0))) h e
+
     go : (o : Option (Float × Float)) → castClipped f kinds r reach solid o .hit ≡ Some h → NamesCell f kinds h
     go None e = none-is-not-some h e
     go (Some clip) e = tested clip (lt reach (clip .0)) e
@@ -133,13 +134,15 @@ chunk-timed f kinds r reach solid h z e = go (clipRay (chunkBox f) r) refl e
         let limit = Floats.least (clip .1) reach in
         let l = least-not-below-zero (clip .1) reach x z in
         let w : Within (h .«time_of_impact») limit =
-              walk-hit (turnAt f kinds r limit solid) (λ (g : RayIntersection). Within (g .«time_of_impact») limit)
-              (λ k g s. cell-timed f kinds r limit solid k g l (turn-hit f kinds r limit solid k g s)) 25 (keyOf f (Rattle.query.specs.Cast.pointAt r (clip .0))) h e in
+        walk-hit (turnAt f kinds r limit solid) (λ (g : RayIntersection). Within (g .«time_of_impact») limit)
+        (λ k g s. cell-timed f kinds r limit solid k g l (turn-hit f kinds r limit solid k g s)) 25 (keyOf f (Rattle.query.specs.Cast.pointAt r (clip .0))) h e in
         (w .0, le-trans (h .«time_of_impact») limit reach (w .1) (least-le-right (clip .1) reach (le-right Single.zero (clip .1) x) (le-right Single.zero reach z)))
+
     tested : (clip : Float × Float) → NotBelowZero (clip .1) → (late : Bool)
         → cond late (record { hit = None; visited = 0 }) (walkWithin f kinds r solid (clip .0) (Floats.least (clip .1) reach)) .hit ≡ Some h → Within (h .«time_of_impact») reach
     tested clip x true e = none-is-not-some h e
     tested clip x false e = within clip x e
+
     go : (o : Option (Float × Float)) → clipRay (chunkBox f) r ≡ o → castClipped f kinds r reach solid o .hit ≡ Some h → Within (h .«time_of_impact») reach
     go None s e = none-is-not-some h e
     go (Some clip) s e = tested clip (exit-not-below-zero (chunkBox f) r clip s) (lt reach (clip .0)) e
@@ -186,6 +189,7 @@ cell-kept f kinds r limit longer solid k l = go (cellNumber k)
         named-some (flatId f n) (boxCast (cellBox f k) r longer solid)
         ∙ box-kept (cellBox f k) r limit longer solid l (sym (named-some (flatId f n) (boxCast (cellBox f k) r limit solid)) ∙ e)
     boxed n false e = e
+
     go : (o : Option ℕ) → isSome (andThen o (boxedHit f kinds r limit solid k)) ≡ true → isSome (andThen o (boxedHit f kinds r longer solid k)) ≡ true
     go None e = e
     go (Some n) e = boxed n (stops (kinds n)) e
@@ -237,8 +241,10 @@ chunk-kept f kinds r reach longer solid l e = go (clipRay (chunkBox f) r) refl e
         walk-kept (turnAt f kinds r (Floats.least (clip .1) reach) solid) (turnAt f kinds r (Floats.least (clip .1) longer) solid)
         (turn-keeps f kinds r (Floats.least (clip .1) reach) (Floats.least (clip .1) longer) solid (least-mono (clip .1) reach longer (le-right Single.zero (clip .1) x) l))
         25 (keyOf f (Rattle.query.specs.Cast.pointAt r (clip .0))) e
+
     late : (start : Float) → lt longer start ≡ true → lt reach start ≡ true
     late start e = let k : T (lt longer start) → T (lt reach start) = lt-of-le-of-lt reach longer start l in grind arith
+
     go : (o : Option (Float × Float)) → clipRay (chunkBox f) r ≡ o → isSome (castClipped f kinds r reach solid o .hit) ≡ true → isSome (castClipped f kinds r longer solid o .hit) ≡ true
     go None s e = e
     go (Some clip) s e = tested clip (exit-not-below-zero (chunkBox f) r clip s) (lt reach (clip .0)) (lt longer (clip .0)) (late (clip .0)) e

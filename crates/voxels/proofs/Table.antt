@@ -29,13 +29,13 @@ kinds-set cells n kind ok h = (length-set cells n kind ∙ ok .0, at)
   where
     at : (m : ℕ) → getD (set cells n kind) m 0 ≤ 1
     at m =
-        elim (cases-eq m n)
-        [ inl same ↦
-            elim (cases-lt n (length cells))
-            [ inl within ↦ omega (arith, ap (λ k. getD (set cells n kind) k 0) same, getD-set-same cells n kind 0 within)
-            | inr past ↦ rw (set-past cells n kind past) (ok .1 m)
-            ]
-        | inr other ↦ rw (getD-set-other cells n m kind 0 other) (ok .1 m)
+        elim (cases-eq m n) [
+          | inl same ↦
+              elim (cases-lt n (length cells)) [
+                | inl within ↦ omega (arith, ap (λ k. getD (set cells n kind) k 0) same, getD-set-same cells n kind 0 within)
+                | inr past ↦ rw (set-past cells n kind past) (ok .1 m)
+              ]
+          | inr other ↦ rw (getD-set-other cells n m kind 0 other) (ok .1 m)
         ]
 
 not-bad : (n kind : ℕ) → n < 512 → kind ≤ 1 → isBad n kind ≡ false
@@ -43,16 +43,16 @@ not-bad n kind h k = grind (arith, tells)
 
 never-full : (kinds : ℕ → ℕ) (n kind : ℕ) → n < 512 → isFull kinds 512 n kind ≡ false
 never-full kinds n kind h =
-    elim (cases-eq (kinds n) 0)
-    [ inl e ↦ let l = filled-lt 512 kinds n h e in grind (arith, tells)
-    | inr e ↦ grind (arith, tells)
+    elim (cases-eq (kinds n) 0) [
+      | inl e ↦ let l = filled-lt 512 kinds n h e in grind (arith, tells)
+      | inr e ↦ grind (arith, tells)
     ]
 
 set-at : (cells : List ℕ) (n kind m : ℕ) → n < length cells → getD (set cells n kind) m 0 ≡ withCell (λ k. getD cells k 0) n kind m
 set-at cells n kind m h =
-    elim (cases-eq m n)
-    [ inl same ↦ rw (eq-eqb m n same, same) (getD-set-same cells n kind 0 h)
-    | inr other ↦ rw (ne-eqb m n other) (getD-set-other cells n m kind 0 other)
+    elim (cases-eq m n) [
+      | inl same ↦ rw (eq-eqb m n same, same) (getD-set-same cells n kind 0 h)
+      | inr other ↦ rw (ne-eqb m n other) (getD-set-other cells n m kind 0 other)
     ]
 
 pub table-sets : (cells : List ℕ) → Kinds cells → (n kind : ℕ) → n < 512 → kind ≤ 1 → Sets (λ m. getD cells m 0) (λ m. getD (set cells n kind) m 0) 512 n kind (Ok tt)

@@ -42,6 +42,7 @@ next-key-uses-one k m d a e = go a e
   where
     same : (n : VoxelKey) → _≡_ {A = Option VoxelKey} (Some n) (Some m) → suc (stepsLeft d n) ≡ stepsLeft d k → suc (stepsLeft d m) ≡ stepsLeft d k
     same n q h = let s : n ≡ m = cc in subst (λ (o : VoxelKey). suc (stepsLeft d o) ≡ stepsLeft d k) s h
+
     go : (a : Axis) → nextKey k d a ≡ Some m → suc (stepsLeft d m) ≡ stepsLeft d k
     go X e =
         let p = through (nextPlace (k .x) (d .x)) (atX k) m e in

@@ -60,7 +60,8 @@ abbrev pub keyOf : ChunkFrame → Vector → VoxelKey
 keyOf f p = record {
   x = placeOf (f .key .x) (p .x) (f .«voxel_size» .x);
   y = placeOf (f .key .y) (p .y) (f .«voxel_size» .y);
-  z = placeOf (f .key .z) (p .z) (f .«voxel_size» .z) }
+  z = placeOf (f .key .z) (p .z) (f .«voxel_size» .z);
+}
 
 -- ---- numbers
 

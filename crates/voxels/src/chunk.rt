@@ -19,7 +19,10 @@ impl<S: CellStore> Chunk<S> {
         ensures frame { λ r. ⌜ r .frame ≡ frame ⌝ }
         ensures empty { λ r. ⌜ ((n : ℕ) → S·CellStore .kinds (r .cells) n ≡ 0) ⌝ }
     {
-        Chunk { frame, cells: S::new() }
+        Chunk {
+            frame,
+            cells: S::new(),
+        }
     }
 
     // The kind of the cell at a key, none outside the chunk.

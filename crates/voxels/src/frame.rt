@@ -58,7 +58,12 @@ fn chunk_fits(key: IVector, voxel_size: Vector, id: u32) -> bool
 }
 
 // The test before a making: the size exponent, where there is one, the chunk key, the cell size and the id.
-pub fn check_making(exponent: Option<i32>, key: IVector, voxel_size: Vector, id: u32) -> Result<(), Refusal>
+pub fn check_making(
+    exponent: Option<i32>,
+    key: IVector,
+    voxel_size: Vector,
+    id: u32,
+) -> Result<(), Refusal>
     ensures { λ r. ⌜ r ≡ makingAnswer (exponentFits exponent && chunkFits key «voxel_size» id) ⌝ }
 {
     if exponent_fits(exponent) && chunk_fits(key, voxel_size, id) {
@@ -73,7 +78,11 @@ impl ChunkFrame {
         ensures { λ r. ⌜ Cases r (λ f. (chunkFits key «voxel_size» id ≡ true) × ((f .key ≡ key) × ((f .«voxel_size» ≡ «voxel_size») × (f .id ≡ id)))) (λ e. (chunkFits key «voxel_size» id ≡ false) × (e ≡ BadMaking)) ⌝ }
     {
         match check_making(None, key, voxel_size, id) {
-            Ok(()) => Ok(ChunkFrame { key, voxel_size, id }),
+            Ok(()) => Ok(ChunkFrame {
+                key,
+                voxel_size,
+                id,
+            }),
             Err(refusal) => Err(refusal),
         }
     }

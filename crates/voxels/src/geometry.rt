@@ -67,7 +67,10 @@ impl ChunkFrame {
     pub fn local_aabb(&self) -> Aabb
         ensures { λ r. ⌜ r ≡ chunkBox (now (self .entry)) ⌝ }
     {
-        Aabb { mins: self.corner(0), maxs: self.corner(VOXELS_PER_CHUNK_DIM) }
+        Aabb {
+            mins: self.corner(0),
+            maxs: self.corner(VOXELS_PER_CHUNK_DIM),
+        }
     }
 
     pub fn voxel_center(&self, key: VoxelKey) -> Vector
@@ -85,7 +88,11 @@ impl ChunkFrame {
         ensures { λ r. ⌜ r ≡ cellBox (now (self .entry)) key ⌝ }
     {
         let size = self.voxel_size;
-        let half_extents = Vector { x: size.x / 2.0, y: size.y / 2.0, z: size.z / 2.0 };
+        let half_extents = Vector {
+            x: size.x / 2.0,
+            y: size.y / 2.0,
+            z: size.z / 2.0,
+        };
         Aabb::from_half_extents(self.voxel_center(key), half_extents)
     }
 

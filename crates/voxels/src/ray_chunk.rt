@@ -26,7 +26,14 @@ fn stops(kind: u8) -> bool
 
 impl<S: CellStore> Chunk<S> {
     // The hit of the cell at a key, if a cell is there, stops the line and is hit within the limit.
-    fn cast_cell(&self, key: VoxelKey, aabb: &Aabb, ray: &Ray, limit: f32, solid: bool) -> Option<RayIntersection>
+    fn cast_cell(
+        &self,
+        key: VoxelKey,
+        aabb: &Aabb,
+        ray: &Ray,
+        limit: f32,
+        solid: bool,
+    ) -> Option<RayIntersection>
         requires { ⌜ now aabb ≡ cellBox (now self .frame) key ⌝ }
         ensures { λ r. ⌜ r ≡ cellHit (now (self .entry) .frame) (S·CellStore .kinds (now (self .entry) .cells)) (now (ray .entry)) limit solid key ⌝ }
     {
@@ -63,7 +70,10 @@ impl<S: CellStore> Chunk<S> {
         loop {
             visited += 1;
             match self.turn_at(key, ray, limit, solid) {
-                Turn::Hit(hit) => return ChunkCast { hit: Some(hit), visited },
+                Turn::Hit(hit) => return ChunkCast {
+                    hit: Some(hit),
+                    visited,
+                },
                 Turn::Stop => return ChunkCast { hit: None, visited },
                 Turn::Step(next) => key = next,
             }
@@ -78,10 +88,16 @@ impl<S: CellStore> Chunk<S> {
         ensures named { λ r. ⌜ ((h : RayIntersection) → r .hit ≡ Some h → NamesCell (now (self .entry) .frame) (S·CellStore .kinds (now (self .entry) .cells)) h) ⌝ }
     {
         let Some((start, end)) = self.frame.local_aabb().clip_ray_parameters(ray) else {
-            return ChunkCast { hit: None, visited: 0 };
+            return ChunkCast {
+                hit: None,
+                visited: 0,
+            };
         };
         if start > max_time_of_impact {
-            return ChunkCast { hit: None, visited: 0 };
+            return ChunkCast {
+                hit: None,
+                visited: 0,
+            };
         }
         let limit = end.min(max_time_of_impact);
         let first = self.frame.voxel_at_point(ray.point_at(start));
@@ -92,7 +108,12 @@ impl<S: CellStore> Chunk<S> {
 pub impl<S: CellStore> RayCast for Chunk<S> as ChunkRayCast {
     ghost casts = { λ c r reach solid. chunkCast (c .frame) (S·CellStore .kinds (c .cells)) r reach solid .hit };
 
-    fn cast_local_ray_and_get_normal(&self, ray: &Ray, max_time_of_impact: f32, solid: bool) -> Option<RayIntersection> {
+    fn cast_local_ray_and_get_normal(
+        &self,
+        ray: &Ray,
+        max_time_of_impact: f32,
+        solid: bool,
+    ) -> Option<RayIntersection> {
         self.cast_ray(ray, max_time_of_impact, solid).hit
     }
 }

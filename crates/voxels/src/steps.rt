@@ -57,9 +57,21 @@ fn next_key(key: VoxelKey, dir: Vector, axis: Axis) -> Option<VoxelKey>
     ensures { λ r. ⌜ r ≡ nextKey key dir axis ⌝ }
 {
     match axis {
-        Axis::X => Some(VoxelKey { x: next_place(key.x, dir.x)?, y: key.y, z: key.z }),
-        Axis::Y => Some(VoxelKey { x: key.x, y: next_place(key.y, dir.y)?, z: key.z }),
-        Axis::Z => Some(VoxelKey { x: key.x, y: key.y, z: next_place(key.z, dir.z)? }),
+        Axis::X => Some(VoxelKey {
+            x: next_place(key.x, dir.x)?,
+            y: key.y,
+            z: key.z,
+        }),
+        Axis::Y => Some(VoxelKey {
+            x: key.x,
+            y: next_place(key.y, dir.y)?,
+            z: key.z,
+        }),
+        Axis::Z => Some(VoxelKey {
+            x: key.x,
+            y: key.y,
+            z: next_place(key.z, dir.z)?,
+        }),
     }
 }
 

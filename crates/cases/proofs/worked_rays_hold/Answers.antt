@@ -21,4 +21,6 @@ returns c = record {
     standing-inside = refl;
     fourth-cell = refl;
     edge-first-axis = refl;
-    edge-second-axis = refl } }
+    edge-second-axis = refl;
+  };
+}

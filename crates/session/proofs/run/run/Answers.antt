@@ -17,9 +17,9 @@ loop-line-again g c later ran =
     let so-far = vec-items (c .loop-line .outcomes) in
     let o = c .answer-line .result in
     let pushed : vec-items (c .push .last .self) ≡ so-far ++ (o ∷ []) =
-          c .push .ensures .items ∙ ap (λ r. cond (isOk r) (so-far ++ (o ∷ [])) so-far) (c .in-Continue-push .was tt) in
+    c .push .ensures .items ∙ ap (λ r. cond (isOk r) (so-far ++ (o ∷ [])) so-far) (c .in-Continue-push .was tt) in
     let joined : vec-items (c .push .last .self) ++ later ≡ so-far ++ (o ∷ later) =
-          ap (λ (os : List Outcome). os ++ later) pushed ∙ append-assoc so-far (o ∷ []) later in
+    ap (λ (os : List Outcome). os ++ later) pushed ∙ append-assoc so-far (o ∷ []) later in
     subst (λ (os : List Outcome). Runs kinds capacity None (lines (c .args .text .now)) os) (sym joined)
     (c .loop-line .inv (o ∷ later)
     (subst (λ (ls : List (List ℕ)). Runs kinds capacity (c .loop-line .session .corner) ls (o ∷ later)) (sym (c .in-Some .ensures tt .first))

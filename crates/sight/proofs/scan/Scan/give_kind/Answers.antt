@@ -29,7 +29,7 @@ returns-in-Ok-set g c =
     let in-chunk = index-accepted (c .args .cell) (c .in-Ok .number) (c .in-Ok .ensures tt) in
     record {
       cells = given (g .S·CellStore .kinds (c .args .self .now .chunk .cells)) (g .S·CellStore .kinds (c .set .last .self)) (g .S·CellStore .capacity) (c .args .cell) (c .in-Ok .number) (c .args .kind)
-        (in-chunk .0) (in-chunk .1) (c .pre) (c .in-Ok-set .ensures tt);
+          (in-chunk .0) (in-chunk .1) (c .pre) (c .in-Ok-set .ensures tt);
       exponent = refl;
       frame = refl;
     }
@@ -39,8 +39,8 @@ returns-in-Full g c =
     let in-chunk = index-accepted (c .args .cell) (c .in-Ok .number) (c .in-Ok .ensures tt) in
     record {
       cells = full-changes-nothing (g .S·CellStore .kinds (c .args .self .now .chunk .cells)) (g .S·CellStore .kinds (c .set .last .self)) (g .S·CellStore .capacity) (c .args .cell) (c .in-Ok .number) (c .args .kind)
-        (in-chunk .0) (in-chunk .1) (c .pre)
-        (subst (λ (e : StoreRefusal). Sets (g .S·CellStore .kinds (c .args .self .now .chunk .cells)) (g .S·CellStore .kinds (c .set .last .self)) (g .S·CellStore .capacity) (c .in-Ok .number) (c .args .kind) (Err e)) (c .in-Full .is) (c .in-Err-set .ensures tt));
+          (in-chunk .0) (in-chunk .1) (c .pre)
+          (subst (λ (e : StoreRefusal). Sets (g .S·CellStore .kinds (c .args .self .now .chunk .cells)) (g .S·CellStore .kinds (c .set .last .self)) (g .S·CellStore .capacity) (c .in-Ok .number) (c .args .kind) (Err e)) (c .in-Full .is) (c .in-Err-set .ensures tt));
       exponent = refl;
       frame = refl;
     }

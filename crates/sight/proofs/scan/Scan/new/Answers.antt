@@ -18,7 +18,10 @@ pub ghost-result : need.ghost-result
 ghost-result g c =
     let same : toZ w32 (ofZ w32 (c .args .exponent)) ≡ c .args .exponent = omega (arith, ints) in
     let low : negsuc 9 ≤ℤ c .args .exponent = omega (arith, ints) in
-    let high : c .args .exponent ≤ℤ pos 10 = omega (arith, ints) in
-    ( subst⁻¹ (λ (e : ℤ). T (exponentFits (Some e))) same (exponent-range (c .args .exponent) low high)
-    , ( ∣ ap (λ (f : ChunkFrame). f .«voxel_size») (c .new-in-Ok .ensures .frame) ∙ c .in-Ok .ensures tt .1 .1 .0 ∙ ap (λ (s : Float). vector s s s) (c .power-of-two-size .ensures) ∣₁
-      , tt))
+    let high : c .args .exponent ≤ℤ pos 10 = omega (arith, ints) in (
+      subst⁻¹ (λ (e : ℤ). T (exponentFits (Some e))) same (exponent-range (c .args .exponent) low high),
+      (
+        ∣ ap (λ (f : ChunkFrame). f .«voxel_size») (c .new-in-Ok .ensures .frame) ∙ c .in-Ok .ensures tt .1 .1 .0 ∙ ap (λ (s : Float). vector s s s) (c .power-of-two-size .ensures) ∣₁,
+        tt,
+      ),
+    )

@@ -22,10 +22,13 @@ pub walk-from-requires : need.walk-from-requires
 walk-from-requires g c κs =
     let f = c .args .self .now .frame in
     let p = c .point-at .result in
-    let e = c .voxel-at-point-first .ensures in
-    (omega (arith, ap (λ (k : VoxelKey). k .x) e, place-few (f .key .x) (p .x) (f .«voxel_size» .x)),
-    (omega (arith, ap (λ (k : VoxelKey). k .y) e, place-few (f .key .y) (p .y) (f .«voxel_size» .y)),
-    omega (arith, ap (λ (k : VoxelKey). k .z) e, place-few (f .key .z) (p .z) (f .«voxel_size» .z))))
+    let e = c .voxel-at-point-first .ensures in (
+      omega (arith, ap (λ (k : VoxelKey). k .x) e, place-few (f .key .x) (p .x) (f .«voxel_size» .x)),
+      (
+        omega (arith, ap (λ (k : VoxelKey). k .y) e, place-few (f .key .y) (p .y) (f .«voxel_size» .y)),
+        omega (arith, ap (λ (k : VoxelKey). k .z) e, place-few (f .key .z) (p .z) (f .«voxel_size» .z)),
+      ),
+    )
 
 pub returns : need.returns
 unfolding chunkCast

@@ -18,15 +18,19 @@ returns-in-Stop g c =
 
 pub loop-hit-less : need.loop-hit-less
 loop-hit-less g c =
-    omega (arith, turn-uses-one (c .args .self .now .frame) (g .S·CellStore .kinds (c .args .self .now .cells)) (c .args .ray .now) (c .args .limit) (c .args .solid)
-      (c .loop-hit .key) (c .in-Step .next) (sym (c .in-Step .ensures tt)))
+    omega (
+      arith,
+      turn-uses-one (c .args .self .now .frame) (g .S·CellStore .kinds (c .args .self .now .cells)) (c .args .ray .now) (c .args .limit) (c .args .solid)
+          (c .loop-hit .key) (c .in-Step .next) (sym (c .in-Step .ensures tt)),
+    )
 
 pub loop-hit-again : need.loop-hit-again
 loop-hit-again g c =
     let kinds = g .S·CellStore .kinds (c .args .self .now .cells) in
     let turn = turnAt (c .args .self .now .frame) kinds (c .args .ray .now) (c .args .limit) (c .args .solid) in
     let n = c .loop-hit .visited in
-    let used = turn-uses-one (c .args .self .now .frame) kinds (c .args .ray .now) (c .args .limit) (c .args .solid) (c .loop-hit .key) (c .in-Step .next) (sym (c .in-Step .ensures tt)) in
-    ( omega (arith, used, c .loop-hit .inv .0)
-    , sym (after-step n (walk turn (25 - (n + 1)) (c .in-Step .next)))
-      ∙ turned turn n (c .loop-hit .key) (walk turn 25 (c .args .first)) (Step (c .in-Step .next)) (omega (arith, c .loop-hit .inv .0)) (c .loop-hit .inv .1) (sym (c .in-Step .ensures tt)))
+    let used = turn-uses-one (c .args .self .now .frame) kinds (c .args .ray .now) (c .args .limit) (c .args .solid) (c .loop-hit .key) (c .in-Step .next) (sym (c .in-Step .ensures tt)) in (
+      omega (arith, used, c .loop-hit .inv .0),
+      sym (after-step n (walk turn (25 - (n + 1)) (c .in-Step .next)))
+          ∙ turned turn n (c .loop-hit .key) (walk turn 25 (c .args .first)) (Step (c .in-Step .next)) (omega (arith, c .loop-hit .inv .0)) (c .loop-hit .inv .1) (sym (c .in-Step .ensures tt)),
+    )
