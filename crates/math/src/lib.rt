@@ -35,11 +35,7 @@ impl Vector {
     pub fn zero() -> Vector
         ensures { λ r. ⌜ r ≡ zeroVector ⌝ }
     {
-        Vector {
-            x: 0.0,
-            y: 0.0,
-            z: 0.0,
-        }
+        Vector::new(0.0, 0.0, 0.0)
     }
 
     // The vector along an axis, of the given length.
@@ -47,21 +43,9 @@ impl Vector {
         ensures { λ r. ⌜ r ≡ along axis length ⌝ }
     {
         match axis {
-            Axis::X => Vector {
-                x: length,
-                y: 0.0,
-                z: 0.0,
-            },
-            Axis::Y => Vector {
-                x: 0.0,
-                y: length,
-                z: 0.0,
-            },
-            Axis::Z => Vector {
-                x: 0.0,
-                y: 0.0,
-                z: length,
-            },
+            Axis::X => Vector::new(length, 0.0, 0.0),
+            Axis::Y => Vector::new(0.0, length, 0.0),
+            Axis::Z => Vector::new(0.0, 0.0, length),
         }
     }
 

@@ -19,15 +19,15 @@ use Rattle.query.specs.declared.«clip_aabb_line».Bound.{Bound}
 use Rattle.query.specs.declared.«clip_aabb_line».Interval.{Interval}
 use Rattle.query.specs.declared.«clip_aabb_line».LineClip.{LineClip}
 use Rattle.query.specs.Cast.{andThen}
-use Rattle.query.specs.Clip.{faceTime, laterEntry, earlierExit, unlessEmpty, cutBySlab, clipAxis, wholeLine, clipAlong, clipSlabs, nearNormal, farNormal, insideOnly, joinEnds, clipLine}
+use Rattle.query.specs.Clip.{faceTime, orEdge, laterEntry, earlierExit, unlessEmpty, cutBySlab, clipAxis, wholeLine, clipAlong, clipSlabs, nearNormal, farNormal, insideOnly, joinEnds, clipLine}
 use Rattle.query.proofs.Options.{none-is-not-some, through}
 
 entry-number : (b : Bound) (t : Float) (s : Side) → Number (b .time) → Number (laterEntry b t s .time)
-unfolding laterEntry
+unfolding laterEntry orEdge
 entry-number b t s n = let k : T (lt (b .time) t) → Number t = λ h. le-right (b .time) t (le-of-lt (b .time) t h) in grind arith
 
 exit-number : (b : Bound) (t : Float) (s : Side) → Number (b .time) → Number (earlierExit b t s .time)
-unfolding earlierExit
+unfolding earlierExit orEdge
 exit-number b t s n = let k : T (lt t (b .time)) → Number t = λ h. le-left t (b .time) (le-of-lt t (b .time) h) in grind arith
 
 -- what every slab keeps true of the line's two times

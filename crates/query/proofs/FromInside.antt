@@ -22,7 +22,7 @@ use Rattle.query.specs.declared.«clip_aabb_line».Bound.{Bound}
 use Rattle.query.specs.declared.«clip_aabb_line».Interval.{Interval}
 use Rattle.query.specs.declared.«clip_aabb_line».LineClip.{LineClip}
 use Rattle.query.specs.Cast.{andThen}
-use Rattle.query.specs.Clip.{faceTime, laterEntry, earlierExit, unlessEmpty, cutBySlab, clipAxis, wholeLine, clipAlong, clipSlabs, nearNormal, farNormal, contains, standsInside, insideOnly, joinEnds, clipLine, rayParameters, clipRay}
+use Rattle.query.specs.Clip.{faceTime, orEdge, laterEntry, earlierExit, unlessEmpty, cutBySlab, clipAxis, wholeLine, clipAlong, clipSlabs, nearNormal, farNormal, contains, standsInside, insideOnly, joinEnds, clipLine, rayParameters, clipRay}
 
 pub record AroundZero (near far : Float) : Type 0 where
   pub enters : T (le near zero)
@@ -38,11 +38,11 @@ abbrev IntervalAroundZero : Interval → Type 0
 IntervalAroundZero i = AroundZero (i .near .time) (i .far .time)
 
 entry-at-most-zero : (b : Bound) (t : Float) (s : Side) → T (le (b .time) zero) → T (le t zero) → T (le (laterEntry b t s .time) zero)
-unfolding laterEntry
+unfolding laterEntry orEdge
 entry-at-most-zero b t s h k = grind arith
 
 exit-at-least-zero : (b : Bound) (t : Float) (s : Side) → T (le zero (b .time)) → T (le zero t) → T (le zero (earlierExit b t s .time))
-unfolding earlierExit
+unfolding earlierExit orEdge
 exit-at-least-zero b t s h k = grind arith
 
 kept : (i : Interval) → IntervalAroundZero i → unlessEmpty i ≡ Some i

@@ -39,17 +39,16 @@ sideNumber (High Z) = negsuc 2
 abbrev pub faceTime : Float → Float → Float → Float
 faceTime face o d = times (minus face o) (over one d)
 
--- a later entry takes the place of the one so far; at the same time the line enters over an edge
-unfoldable pub laterEntry : Bound → Float → Side → Bound
-laterEntry b t s =
-    cond (lt (b .time) t) (record { time = t; side = s; edge = false })
-    (cond (eq t (b .time)) (record { time = b .time; side = b .side; edge = true }) b)
+-- at the time of the end so far another slab meets it on an edge
+unfoldable pub orEdge : Bound → Float → Bound
+orEdge b t = cond (eq t (b .time)) (record { time = b .time; side = b .side; edge = true }) b
 
--- and so for an earlier exit
+-- a later entry takes the place of the one so far, and an earlier exit
+unfoldable pub laterEntry : Bound → Float → Side → Bound
+laterEntry b t s = cond (lt (b .time) t) (record { time = t; side = s; edge = false }) (orEdge b t)
+
 unfoldable pub earlierExit : Bound → Float → Side → Bound
-earlierExit b t s =
-    cond (lt t (b .time)) (record { time = t; side = s; edge = false })
-    (cond (eq t (b .time)) (record { time = b .time; side = b .side; edge = true }) b)
+earlierExit b t s = cond (lt t (b .time)) (record { time = t; side = s; edge = false }) (orEdge b t)
 
 -- nothing is left where the exit comes before time zero or before the entry
 unfoldable pub unlessEmpty : Interval → Option Interval

@@ -3,7 +3,7 @@ use crate::aabb::Aabb;
 use math::Axis;
 use math::Vector;
 ghost use mathlib.Core.Path.{_≡_};
-ghost use Rattle.query.specs.Clip.{sideNumber, laterEntry, earlierExit, unlessEmpty, cutBySlab, clipAxis, clipSlabs, nearNormal, farNormal, insideOnly, clipLine};
+ghost use Rattle.query.specs.Clip.{sideNumber, orEdge, laterEntry, earlierExit, unlessEmpty, cutBySlab, clipAxis, clipSlabs, nearNormal, farNormal, insideOnly, clipLine};
 
 // A side of a box: the face at the minimum or at the maximum of an axis.
 // `Inside` stands where no face was passed, since the direction is zero or no number and the origin is in the box.
@@ -60,6 +60,21 @@ pub struct LineClip {
     pub far: LinePoint,
 }
 
+// The end so far, on an edge where another slab has it at the same time.
+fn or_edge(bound: Bound, time: f32) -> Bound
+    ensures { λ r. ⌜ r ≡ orEdge bound time ⌝ }
+{
+    if time == bound.time {
+        Bound {
+            time: bound.time,
+            side: bound.side,
+            edge: true,
+        }
+    } else {
+        bound
+    }
+}
+
 fn later_entry(bound: Bound, time: f32, side: Side) -> Bound
     ensures { λ r. ⌜ r ≡ laterEntry bound time side ⌝ }
 {
@@ -69,14 +84,8 @@ fn later_entry(bound: Bound, time: f32, side: Side) -> Bound
             side,
             edge: false,
         }
-    } else if time == bound.time {
-        Bound {
-            time: bound.time,
-            side: bound.side,
-            edge: true,
-        }
     } else {
-        bound
+        or_edge(bound, time)
     }
 }
 
@@ -89,14 +98,8 @@ fn earlier_exit(bound: Bound, time: f32, side: Side) -> Bound
             side,
             edge: false,
         }
-    } else if time == bound.time {
-        Bound {
-            time: bound.time,
-            side: bound.side,
-            edge: true,
-        }
     } else {
-        bound
+        or_edge(bound, time)
     }
 }
 
