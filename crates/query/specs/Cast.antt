@@ -20,6 +20,9 @@ Within t reach = T (le zero t) × T (le t reach)
 abbrev pub pointAt : Ray → Float → Vector
 pointAt r t = vadd (r .origin) (vscale (r .dir) t)
 
+abbrev pub translated : Ray → Vector → Ray
+translated r v = record { origin = vadd (r .origin) v; dir = r .dir }
+
 -- the second step on what the first gives, if it gives anything
 abbrev pub andThen : {A B : Type 0} → Option A → (A → Option B) → Option B
 andThen None f = None

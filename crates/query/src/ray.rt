@@ -11,7 +11,7 @@ ghost use Rattle.std.specs.declared.option.Option.the-variants.{Some};
 ghost use Rattle.scalar.specs.Single.{NotBelowZero};
 ghost use Rattle.query.specs.declared.ray.Ray.{Ray};
 ghost use Rattle.query.specs.declared.ray.RayIntersection.{RayIntersection};
-ghost use Rattle.query.specs.Cast.{Within, pointAt, hit};
+ghost use Rattle.query.specs.Cast.{Within, pointAt, translated, hit};
 
 // The points origin + time * dir, for times not below zero. `dir` has any length.
 #[derive(Clone, Copy)]
@@ -33,6 +33,16 @@ impl Ray {
         ensures { λ r. ⌜ r ≡ record { origin = origin; dir = dir } ⌝ }
     {
         Ray { origin, dir }
+    }
+
+    // The ray moved by a vector.
+    pub fn translate_by(&self, v: Vector) -> Ray
+        ensures { λ r. ⌜ r ≡ translated (now (self .entry)) v ⌝ }
+    {
+        Ray {
+            origin: self.origin.add(v),
+            dir: self.dir,
+        }
     }
 
     // The point at a time.
