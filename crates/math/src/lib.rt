@@ -1,4 +1,7 @@
-// Vectors, with a named function for each operation.
+// Vectors, with a named function for each operation, rotations and poses.
+pub mod pose;
+pub mod rotation;
+
 ghost use mathlib.Core.Path.{_≡_};
 ghost use Rattle.math.specs.Vectors.{vector, zeroVector, component, along, vadd, vsub, vscale, vneg, dot, cross, normalized, minPosition, toI32, floor};
 

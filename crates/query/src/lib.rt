@@ -4,3 +4,4 @@ pub mod clip_aabb_line;
 pub mod feature_id;
 pub mod ray;
 pub mod ray_aabb;
+pub mod ray_cast;

@@ -1,6 +1,7 @@
 // Rays, what they hit, and the interface of everything that can be hit.
 use crate::feature_id::FeatureId;
 use math::Vector;
+use math::pose::Pose;
 ghost use mathlib.Core.Path.{_≡_};
 ghost use mathlib.Core.Bool.{Bool, true};
 ghost use lib.Dec.{T};
@@ -11,7 +12,7 @@ ghost use Rattle.std.specs.declared.option.Option.the-variants.{Some};
 ghost use Rattle.scalar.specs.Single.{NotBelowZero};
 ghost use Rattle.query.specs.declared.ray.Ray.{Ray};
 ghost use Rattle.query.specs.declared.ray.RayIntersection.{RayIntersection};
-ghost use Rattle.query.specs.Cast.{Within, pointAt, translated, hit};
+ghost use Rattle.query.specs.Cast.{Within, pointAt, translated, hit, worldRay, localRay, worldHit};
 
 // The points origin + time * dir, for times not below zero. `dir` has any length.
 #[derive(Clone, Copy)]
@@ -33,6 +34,26 @@ impl Ray {
         ensures { λ r. ⌜ r ≡ record { origin = origin; dir = dir } ⌝ }
     {
         Ray { origin, dir }
+    }
+
+    // The ray of a shape's own frame, in the world.
+    pub fn transform_by(&self, m: &Pose) -> Ray
+        ensures { λ r. ⌜ r ≡ worldRay (now (m .entry)) (now (self .entry)) ⌝ }
+    {
+        Ray {
+            origin: m.transform_point(self.origin),
+            dir: m.rotation.rotate(self.dir),
+        }
+    }
+
+    // The ray of the world, in a shape's own frame.
+    pub fn inverse_transform_by(&self, m: &Pose) -> Ray
+        ensures { λ r. ⌜ r ≡ localRay (now (m .entry)) (now (self .entry)) ⌝ }
+    {
+        Ray {
+            origin: m.inverse_transform_point(self.origin),
+            dir: m.rotation.inverse().rotate(self.dir),
+        }
     }
 
     // The ray moved by a vector.
@@ -62,6 +83,15 @@ impl RayIntersection {
             normal,
             feature,
         }
+    }
+}
+
+impl RayIntersection {
+    // The hit of a shape's own frame, in the world: the normal turns, time and feature stay.
+    pub fn transform_by(&self, m: &Pose) -> RayIntersection
+        ensures { λ r. ⌜ r ≡ worldHit (now (m .entry)) (now (self .entry)) ⌝ }
+    {
+        RayIntersection::new(self.time_of_impact, m.rotation.rotate(self.normal), self.feature)
     }
 }
 
