@@ -1,3 +1,4 @@
 pub mod Cast
 pub mod Clip
 pub mod Box
+pub mod FirstHit

@@ -91,7 +91,11 @@ impl RayIntersection {
     pub fn transform_by(&self, m: &Pose) -> RayIntersection
         ensures { λ r. ⌜ r ≡ worldHit (now (m .entry)) (now (self .entry)) ⌝ }
     {
-        RayIntersection::new(self.time_of_impact, m.rotation.rotate(self.normal), self.feature)
+        RayIntersection::new(
+            self.time_of_impact,
+            m.rotation.rotate(self.normal),
+            self.feature,
+        )
     }
 }
 

@@ -9,7 +9,12 @@ ghost use Rattle.std.specs.Options.{isSome};
 ghost use Rattle.query.specs.Cast.{localRay, timeOf, worldHitOf};
 
 // The time of the full cast.
-pub fn cast_local_ray<T: RayCast>(thing: &T, ray: &Ray, max_time_of_impact: f32, solid: bool) -> Option<f32>
+pub fn cast_local_ray<T: RayCast>(
+    thing: &T,
+    ray: &Ray,
+    max_time_of_impact: f32,
+    solid: bool,
+) -> Option<f32>
     ensures { λ r. ⌜ r ≡ timeOf (casts (now (thing .entry)) (now (ray .entry)) «max_time_of_impact» solid) ⌝ }
 {
     match thing.cast_local_ray_and_get_normal(ray, max_time_of_impact, solid) {
@@ -26,10 +31,21 @@ pub fn intersects_local_ray<T: RayCast>(thing: &T, ray: &Ray, max_time_of_impact
 }
 
 // The time of the full cast on a thing in a pose.
-pub fn cast_ray<T: RayCast>(thing: &T, m: &Pose, ray: &Ray, max_time_of_impact: f32, solid: bool) -> Option<f32>
+pub fn cast_ray<T: RayCast>(
+    thing: &T,
+    m: &Pose,
+    ray: &Ray,
+    max_time_of_impact: f32,
+    solid: bool,
+) -> Option<f32>
     ensures { λ r. ⌜ r ≡ timeOf (casts (now (thing .entry)) (localRay (now (m .entry)) (now (ray .entry))) «max_time_of_impact» solid) ⌝ }
 {
-    cast_local_ray(thing, &ray.inverse_transform_by(m), max_time_of_impact, solid)
+    cast_local_ray(
+        thing,
+        &ray.inverse_transform_by(m),
+        max_time_of_impact,
+        solid,
+    )
 }
 
 // The full cast on a thing in a pose; the normal is turned into the world.
