@@ -15,8 +15,10 @@ pub use display::StatementDisplay;
 use math::IVector;
 use math::IVectorDebug;
 use math::IVectorPartialEq;
+pub use number::whole_number;
 pub use parse::parse_line;
 pub use scan::split_line;
+pub use scan::split_word;
 
 // What a line asks for.
 #[derive(Clone, Copy, PartialEq, Debug)]

@@ -29,7 +29,7 @@ fn natural_number(digits: &[u8]) -> Option<u32>
 }
 
 // The number that the word writes, with a '-' before its digits or none.
-fn whole_number(word: &[u8]) -> Option<i32>
+pub fn whole_number(word: &[u8]) -> Option<i32>
     ensures { λ r. ⌜ r ≡ wholeNumber (now (word .entry)) ⌝ }
 {
     if !word.is_empty() && word[0] == b'-' {

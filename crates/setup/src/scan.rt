@@ -92,7 +92,7 @@ fn skip_blanks(line: &[u8]) -> &[u8]
 }
 
 // The first word and what follows it; none where there is no word.
-pub(crate) fn split_word(line: &[u8]) -> Option<(&[u8], &[u8])>
+pub fn split_word(line: &[u8]) -> Option<(&[u8], &[u8])>
     ensures { λ r. ⌜ elim r [ None ↦ words (now (line .entry)) ≡ [] | Some p ↦ words (now (line .entry)) ≡ now (p .0) ∷ words (now (p .1)) ] ⌝ }
 {
     let start = skip_blanks(line);
