@@ -13,9 +13,13 @@ use sight::grid_point::GridPoint;
 use sight::scan::Scan;
 use std::test::*;
 use voxels::cell_store::CellStore;
+use voxels::cell_store::StoreRefusal;
 use voxels::cell_store::StoreRefusalDebug;
+use voxels::cell_store::StoreRefusalPartialEq;
 use voxels::chunk::Chunk;
 use voxels::chunk_cast::ChunkCast;
+use voxels::few_store::FewStore;
+use voxels::few_store::cells::FewCellStore;
 use voxels::frame::ChunkFrame;
 use voxels::refusal::Refusal;
 use voxels::refusal::RefusalDebug;
@@ -218,4 +222,74 @@ fn marked_seen_wiped_clear() -> Result<(), Fail> {
     check(corner.look(&camera, &cot).hit.is_some())?;
     corner.wipe(cell)?;
     check(corner.look(&camera, &cot).hit.is_none())
+}
+
+// A few store with the cells 0, 8, 16 and so on to 504.
+fn full_few_store() -> Result<FewStore, StoreRefusal> {
+    let mut store = FewCellStore::new();
+    for i in 0..64u16 {
+        store.set(8 * i, 1)?;
+    }
+    Ok(store)
+}
+
+#[test]
+fn wiped_place_used_again() -> Result<(), Fail> {
+    let mut store = full_few_store()?;
+    check_eq(store.set(5, 1), Err(StoreRefusal::Full))?;
+    check_eq(store.read(5), 0)?;
+    store.set(128, 0)?;
+    store.set(5, 1)?;
+    check_eq(store.read(5), 1)?;
+    check_eq(store.read(128), 0)?;
+    check_eq(store.set(128, 1), Err(StoreRefusal::Full))
+}
+
+#[test]
+fn filled_again_at_full() -> Result<(), Fail> {
+    let mut store = full_few_store()?;
+    store.set(504, 1)?;
+    for n in 0..513u16 {
+        let filled = n < 512 && n % 8 == 0;
+        check_eq(store.read(n), if filled { 1 } else { 0 })?;
+    }
+    Ok(())
+}
+
+// A corner with a slanted row of cells and a straight one.
+fn corner_with_rows<S: CellStore + Drop>() -> Result<Scan<S>, Refusal> {
+    let mut corner = Scan::new(0, IVector { x: 0, y: 0, z: 0 }, 0)?;
+    for i in 0..8i32 {
+        corner.mark(IVector { x: i, y: 3, z: i })?;
+        corner.mark(IVector { x: 5, y: i, z: 2 })?;
+    }
+    Ok(corner)
+}
+
+#[test]
+fn same_looks_over_both_stores() -> Result<(), Fail> {
+    let few: Scan<FewStore> = corner_with_rows()?;
+    let table: Scan<TableStore> = corner_with_rows()?;
+    let camera = grid_point(64, 64, 64)?;
+    let (mut blocked, mut clear) = (false, false);
+    let across = [64, 192, 320, 448, 576, 704, 832, 960];
+    for x in across {
+        for z in across {
+            let target = grid_point(x, 960, z)?;
+            let seen = few.look(&camera, &target);
+            let known = table.look(&camera, &target);
+            check_eq(seen.visited, known.visited)?;
+            match known.hit {
+                Some(hit) => {
+                    check_hit(seen.hit, hit.time_of_impact, hit.normal, hit.feature)?;
+                    blocked = true;
+                }
+                None => {
+                    check(seen.hit.is_none())?;
+                    clear = true;
+                }
+            }
+        }
+    }
+    check(blocked && clear)
 }

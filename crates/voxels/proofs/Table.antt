@@ -13,8 +13,9 @@ use Rattle.std.proofs.shelf.Lists.{set-past, getD-past}
 use Rattle.std.proofs.shelf.Ways.{tells}
 use Rattle.std.specs.declared.result.Result.the-variants.{Ok}
 use Rattle.voxels.specs.Lawful.{Kinds}
-use Rattle.voxels.specs.Store.{Sets, withCell, isBad, isFull}
+use Rattle.voxels.specs.Store.{Sets, withCell, isFull}
 use Rattle.voxels.proofs.Counts.{filled-lt}
+use Rattle.voxels.proofs.Setting.{accepted}
 
 pub zeros-at : (k n : ℕ) → _≡_ {A = ℕ} (getD (replicate k 0) n 0) 0
 zeros-at zero n = refl
@@ -38,9 +39,6 @@ kinds-set cells n kind ok h = (length-set cells n kind ∙ ok .0, at)
           | inr other ↦ rw (getD-set-other cells n m kind 0 other) (ok .1 m)
         ]
 
-not-bad : (n kind : ℕ) → n < 512 → kind ≤ 1 → isBad n kind ≡ false
-not-bad n kind h k = grind (arith, tells)
-
 never-full : (kinds : ℕ → ℕ) (n kind : ℕ) → n < 512 → isFull kinds 512 n kind ≡ false
 never-full kinds n kind h =
     elim (cases-eq (kinds n) 0) [
@@ -58,7 +56,4 @@ set-at cells n kind m h =
 pub table-sets : (cells : List ℕ) → Kinds cells → (n kind : ℕ) → n < 512 → kind ≤ 1 → Sets (λ m. getD cells m 0) (λ m. getD (set cells n kind) m 0) 512 n kind (Ok tt)
 table-sets cells ok n kind h k =
     let within : n < length cells = omega (arith, ok .0) in
-    record {
-      answer = rw (not-bad n kind h k, never-full (λ m. getD cells m 0) n kind h) refl;
-      cells = λ m. set-at cells n kind m within;
-    }
+    accepted (λ m. getD cells m 0) (λ m. getD (set cells n kind) m 0) 512 n kind h k (never-full (λ m. getD cells m 0) n kind h) (λ m. set-at cells n kind m within)

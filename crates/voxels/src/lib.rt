@@ -2,6 +2,7 @@
 pub mod cell_store;
 pub mod chunk;
 pub mod chunk_cast;
+pub mod few_store;
 pub mod frame;
 pub mod geometry;
 pub mod ray_chunk;
