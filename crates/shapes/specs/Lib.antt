@@ -1,0 +1,5 @@
+pub mod Reach
+pub mod HalfSpace
+pub mod Ball
+pub mod BoundingSphere
+pub mod Cuboid
