@@ -1,3 +1,4 @@
 pub mod ReachLaws
 pub mod HalfSpaceLaws
 pub mod BallLaws
+pub mod TriangleLaws

@@ -3,3 +3,4 @@ pub mod HalfSpace
 pub mod Ball
 pub mod BoundingSphere
 pub mod Cuboid
+pub mod Triangle

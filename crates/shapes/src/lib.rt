@@ -3,3 +3,4 @@ pub mod ball;
 pub mod bounding_sphere;
 pub mod cuboid;
 pub mod half_space;
+pub mod triangle;
