@@ -2,3 +2,4 @@ pub mod ReachLaws
 pub mod HalfSpaceLaws
 pub mod BallLaws
 pub mod TriangleLaws
+pub mod CuboidLaws

@@ -4,3 +4,4 @@ pub mod Ball
 pub mod BoundingSphere
 pub mod Cuboid
 pub mod Triangle
+pub mod Shape

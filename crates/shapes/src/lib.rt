@@ -3,4 +3,5 @@ pub mod ball;
 pub mod bounding_sphere;
 pub mod cuboid;
 pub mod half_space;
+pub mod shape;
 pub mod triangle;
