@@ -1,0 +1,7 @@
+// Kinds of shapes that a ray can hit.
+pub mod ball;
+pub mod bounding_sphere;
+pub mod cuboid;
+pub mod half_space;
+pub mod shape;
+pub mod triangle;
