@@ -14,12 +14,7 @@ pub struct Ball {
 
 // Whether the ray starts inside the ball, and when it hits the ball, if it does.
 // Under `solid` a ray from inside hits at once, else where it leaves. Rounding can put that time below zero.
-pub fn ray_toi_with_ball(
-    center: Vector,
-    radius: f32,
-    ray: &Ray,
-    solid: bool,
-) -> (bool, Option<f32>)
+pub fn ray_toi_with_ball(center: Vector, radius: f32, ray: &Ray, solid: bool) -> (bool, Option<f32>)
     ensures { λ r. ⌜ r ≡ ballTime center radius (now (ray .entry)) solid ⌝ }
 {
     let from_center = ray.origin.sub(center);
@@ -69,7 +64,10 @@ pub fn ray_toi_and_normal_with_ball(
         Some(t) => {
             let outward = ray.point_at(t).sub(center).normalize();
             let normal = if inside { outward.neg() } else { outward };
-            (inside, Some(RayIntersection::new(t, normal, FeatureId::Face(0))))
+            (
+                inside,
+                Some(RayIntersection::new(t, normal, FeatureId::Face(0))),
+            )
         }
     }
 }
