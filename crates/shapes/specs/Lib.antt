@@ -5,3 +5,4 @@ pub mod BoundingSphere
 pub mod Cuboid
 pub mod Triangle
 pub mod Shape
+pub mod Worked
