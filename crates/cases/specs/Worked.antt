@@ -17,7 +17,7 @@ use Rattle.voxels.specs.declared.frame.ChunkFrame.{ChunkFrame}
 use Rattle.sight.specs.declared.«grid_point».GridPoint.{GridPoint}
 use Rattle.voxels.specs.declared.«chunk_cast».ChunkCast.{ChunkCast}
 use Rattle.sight.specs.Power.{cube}
-use Rattle.voxels.specs.Store.{withCell}
+use Rattle.stores.specs.Store.{withCell}
 use Rattle.sight.specs.Sight.{lookAt}
 
 -- ---- floats: an odd whole number times a power of two

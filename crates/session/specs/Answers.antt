@@ -18,7 +18,7 @@ use Rattle.voxels.specs.declared.refusal.Refusal.the-variants.{PointOutside, Ba
 use Rattle.voxels.specs.Lawful.{exponentFits, chunkFits}
 use Rattle.sight.specs.Ranges.{gridFits}
 use Rattle.sight.specs.Power.{cube}
-use Rattle.voxels.specs.Store.{withCell}
+use Rattle.stores.specs.Store.{withCell}
 use Rattle.sight.specs.Cells.{cellIndex, cellAnswer}
 use Rattle.sight.specs.Sight.{lookAt}
 use Rattle.session.specs.declared.outcome.Outcome.{Outcome}

@@ -4,7 +4,7 @@ use crate::session::Session;
 use setup::split_line;
 use std::alloc::AllocError;
 use std::alloc::Global;
-use voxels::cell_store::CellStore;
+use stores::cell_store::CellStore;
 ghost use Rattle.std.specs.Of.Vec.{vec-items};
 ghost use Rattle.std.specs.Vec.{made};
 ghost use Rattle.std.specs.declared.option.Option.the-variants.{None};

@@ -7,7 +7,7 @@ use setup::Statement;
 use setup::parse_line;
 use sight::grid_point::GridPoint;
 use sight::scan::Scan;
-use voxels::cell_store::CellStore;
+use stores::cell_store::CellStore;
 use voxels::chunk_cast::ChunkCast;
 use voxels::refusal::Refusal;
 ghost use mathlib.Core.Path.{_≡_};

@@ -4,7 +4,7 @@ use crate::outcome::Outcome;
 use crate::run::run;
 use crate::tally::tally_of;
 use std::test::*;
-use voxels::table_store::cells::TableCellStore;
+use stores::table_store::cells::TableCellStore;
 
 // Each line of the text in words, as one text.
 fn answers(rt: &LibcRuntime, text: &str) -> Result<String, Fail> {

@@ -12,10 +12,10 @@ use Rattle.std.specs.declared.result.Result.{Result}
 use Rattle.std.specs.declared.result.Result.the-variants.{Ok, Err}
 use Rattle.voxels.specs.declared.refusal.Refusal.{Refusal}
 use Rattle.voxels.specs.declared.refusal.Refusal.the-variants.{CellOutside, StoreFull}
-use Rattle.voxels.specs.declared.«cell_store».StoreRefusal.{StoreRefusal}
-use Rattle.voxels.specs.declared.«cell_store».StoreRefusal.the-variants.{Bad, Full}
+use Rattle.stores.specs.declared.«cell_store».StoreRefusal.{StoreRefusal}
+use Rattle.stores.specs.declared.«cell_store».StoreRefusal.the-variants.{Bad, Full}
 use Rattle.sight.specs.Ranges.{coordinateFits, cellFits}
-use Rattle.voxels.specs.Store.{Sets, isBad, isFull, setAnswer}
+use Rattle.stores.specs.Store.{Sets, isBad, isFull, setAnswer}
 use Rattle.sight.specs.Cells.{cellIndex, indexAnswer, cellAnswer, GivesKind}
 
 never : {A : Type 0} → _≡_ {A = ℕ} 0 1 → A
@@ -71,7 +71,7 @@ module _ (before after : ℕ → ℕ) (capacity : ℕ) (c : IVector) (n kind : �
     answer =
         let full : isFull before capacity (cellIndex c) kind ≡ false = subst (λ (i : ℕ). isFull before capacity i kind ≡ false) is (go (isFull before capacity n kind) (s .answer ∙ ap (λ (b : Bool). cond b (Err Bad) (cond (isFull before capacity n kind) (Err Full) (Ok tt))) good)) in
         rw (fits, full) refl;
-    cells = λ m. subst (λ (i : ℕ). after m ≡ Rattle.voxels.specs.Store.withCell before i kind m) is (s .cells m);
+    cells = λ m. subst (λ (i : ℕ). after m ≡ Rattle.stores.specs.Store.withCell before i kind m) is (s .cells m);
   }
     where
       go : (b : Bool) → _≡_ {A = Result (Unit {0}) StoreRefusal} (Ok tt) (cond b (Err Full) (Ok tt)) → b ≡ false

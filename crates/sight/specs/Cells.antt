@@ -10,7 +10,7 @@ use Rattle.std.specs.declared.result.Result.the-variants.{Ok, Err}
 use Rattle.voxels.specs.declared.refusal.Refusal.{Refusal}
 use Rattle.voxels.specs.declared.refusal.Refusal.the-variants.{CellOutside, StoreFull}
 use Rattle.sight.specs.Ranges.{cellFits}
-use Rattle.voxels.specs.Store.{isFull, withCell}
+use Rattle.stores.specs.Store.{isFull, withCell}
 
 abbrev pub cellIndex : IVector → ℕ
 cellIndex c = natAbs (c .x) + 8 * natAbs (c .y) + 64 * natAbs (c .z)

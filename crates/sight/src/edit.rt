@@ -1,8 +1,8 @@
 // Filling and emptying the cells of a scanned corner.
 use crate::scan::Scan;
 use math::IVector;
-use voxels::cell_store::CellStore;
-use voxels::cell_store::StoreRefusal;
+use stores::cell_store::CellStore;
+use stores::cell_store::StoreRefusal;
 use voxels::refusal::Refusal;
 ghost use mathlib.Core.Path.{_≡_};
 ghost use Prim.Native.Nat.{_≤_};

@@ -5,7 +5,7 @@ use crate::scan::power_of_two;
 use math::Vector;
 use query::ray::Ray;
 use query::ray::RayIntersection;
-use voxels::cell_store::CellStore;
+use stores::cell_store::CellStore;
 use voxels::chunk_cast::ChunkCast;
 use voxels::frame::ChunkFrame;
 ghost use mathlib.Core.Path.{_≡_};

@@ -1,7 +1,7 @@
 // A scanned corner: a chunk whose cells are cubes of 2^e metres.
 use math::IVector;
 use math::Vector;
-use voxels::cell_store::CellStore;
+use stores::cell_store::CellStore;
 use voxels::chunk::Chunk;
 use voxels::frame::ChunkFrame;
 use voxels::refusal::Refusal;

@@ -8,8 +8,8 @@ use std::error::AnyError;
 use std::fs;
 use std::io;
 use std::io::Read;
-use voxels::table_store::TableStore;
-use voxels::table_store::cells::TableCellStore;
+use stores::table_store::TableStore;
+use stores::table_store::cells::TableCellStore;
 
 fn setup_text(rt: &LibcRuntime) -> io::Result<Vec<u8>> {
     let mut args = env::args(rt)?;

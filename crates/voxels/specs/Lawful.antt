@@ -1,11 +1,8 @@
--- What a chunk, a grid point and a table may hold.
-use mathlib.Core.Path.{_≡_}
+-- What a chunk may be made of.
 use mathlib.Core.Bool.{Bool, true, cond, _&&_}
-use mathlib.Core.List.{List}
-use Prim.Native.Nat.{ℕ, _≤_}
+use Prim.Native.Nat.{ℕ}
 use lib.Dec.{T, leb}
 use lib.IntN.{ℤ, pos, negsuc}
-use lib.ListN.{length, getD}
 use lib.Signed.{leZ}
 use lib.Ieee.{Float, lt, le}
 use Rattle.scalar.specs.Single.{zero, largest}
@@ -17,10 +14,6 @@ use Rattle.std.specs.declared.result.Result.{Result}
 use Rattle.std.specs.declared.result.Result.the-variants.{Ok, Err}
 use Rattle.voxels.specs.declared.refusal.Refusal.{Refusal}
 use Rattle.voxels.specs.declared.refusal.Refusal.the-variants.{BadMaking}
-
--- 512 kinds, each 0 or 1
-abbrev pub Kinds : List ℕ → Type 0
-Kinds cells = (length cells ≡ 512) × ((n : ℕ) → getD cells n 0 ≤ 1)
 
 abbrev pub between : ℤ → ℤ → ℤ → Bool
 between least most z = leZ least z && leZ z most

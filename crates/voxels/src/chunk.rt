@@ -1,5 +1,5 @@
 // A chunk: 8 by 8 by 8 cells in a frame.
-use crate::cell_store::CellStore;
+use stores::cell_store::CellStore;
 use crate::frame::ChunkFrame;
 use crate::geometry::cell_number;
 use crate::voxel_key::VoxelKey;

@@ -1,5 +1,5 @@
 // The cast of a chunk: a walk from cell to cell along the ray.
-use crate::cell_store::CellStore;
+use stores::cell_store::CellStore;
 use crate::chunk::Chunk;
 use crate::chunk_cast::ChunkCast;
 use crate::chunk_cast::Turn;

@@ -1,8 +1,8 @@
 use mathlib.Core.Path.{_≡_, refl, sym, subst}
 use Rattle.std.specs.declared.result.Result.the-variants.{Err}
 use Rattle.voxels.specs.declared.refusal.Refusal.{Refusal}
-use Rattle.voxels.specs.declared.«cell_store».StoreRefusal.{StoreRefusal}
-use Rattle.voxels.specs.Store.{Sets}
+use Rattle.stores.specs.declared.«cell_store».StoreRefusal.{StoreRefusal}
+use Rattle.stores.specs.Store.{Sets}
 use Rattle.sight.specs.Cells.{GivesKind}
 use Rattle.sight.proofs.Giving.{index-refused, index-accepted, outside-changes-nothing, never-bad, given, full-changes-nothing}
 use Rattle.sight.proofs.scan.Scan.give_kind.Needs as need

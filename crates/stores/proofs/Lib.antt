@@ -1,0 +1,4 @@
+pub mod Counts
+pub mod Setting
+pub mod Table
+pub mod Few

@@ -1,0 +1,4 @@
+pub mod Store
+pub mod Kinds
+pub mod Table
+pub mod Few

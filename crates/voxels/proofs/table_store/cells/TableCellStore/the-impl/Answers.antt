@@ -1,5 +1,0 @@
-use Rattle.voxels.proofs.Table.{outside-empty}
-use Rattle.voxels.proofs.table_store.cells.TableCellStore.the-impl.Needs as need
-
-pub outside-law : need.outside-law
-outside-law s = outside-empty (s .cells) (s .ok)
