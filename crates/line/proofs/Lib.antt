@@ -1,2 +1,3 @@
 pub mod Shares
 pub mod Faces
+pub mod Entry

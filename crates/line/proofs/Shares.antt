@@ -33,6 +33,13 @@ no-later-refl s = omega arith
 pub zero-no-later : (s r : Share) → s .gone ≡ 0 → NoLater s r
 zero-no-later s r z = omega (arith, ap (λ (i : ℕ). i * parts r) z, zero-mul (parts r))
 
+-- what is no later than a share before 1 is before 1
+pub before-target-no-later : (s r : Share) → NoLater s r → 0 < r .left → 0 < s .left
+before-target-no-later s r h p = elim (eq-zero-or-pos (s .left)) [
+  | inl z ↦ absurd (omega (arith, ap (λ (i : ℕ). r .gone * i) z, mul-lt-mul-of-pos-left {k = s .gone} p (omega (arith, s .positive))))
+  | inr q ↦ q
+]
+
 pub cancel-parts-le : (s : Share) (a b : ℕ) → parts s * a ≤ parts s * b → a ≤ b
 cancel-parts-le s a b h = le-of-mul-le-mul-left {k = parts s} h (s .positive)
 

@@ -4,7 +4,7 @@ use mathlib.Core.Bool.{cond}
 use mathlib.Core.Logic.{_⊎_}
 use Prim.Native.Nat.{ℕ, _+_, _-_, _*_, _≤_, _<_}
 use lib.Dec.{ltb}
-use Rattle.line.specs.Line.{Point, Cell, Axis, coordinate, index, Share, parts}
+use Rattle.line.specs.Line.{Point, Cell, Axis, coordinate, index, Share, parts, Entry}
 
 -- the size of t - o
 abbrev pub span : ℕ → ℕ → ℕ
@@ -37,6 +37,12 @@ pub record NearShare (o t k : ℕ) (s : Share) : Type 0 where
 pub record Latest (o t : Point) (c : Cell) (s : Share) : Type 0 where
   pub reached : (i : Axis) → 0 < spanOn o t i → nearOn o t c i * parts s ≤ s .gone * spanOn o t i
   pub attained : (s .gone ≡ 0) ⊎ ((i : Axis) × NearShare (coordinate o i) (coordinate t i) (index c i) s)
+
+-- the line enters the cell, at the latest of its near faces or at once
+pub record Entered (o t : Point) (c : Cell) : Type 0 where
+  pub share : Share
+  pub entry : Entry o t c share
+  pub latest : Latest o t c share
 
 -- the line reaches each near face before each far face and before t; where it keeps its coordinate, that is strictly between the faces
 pub record Open (o t : Point) (c : Cell) : Type 0 where
