@@ -1,3 +1,5 @@
 pub mod Shares
 pub mod Faces
 pub mod Entry
+pub mod Steps
+pub mod Walk

@@ -2,6 +2,7 @@
 use mathlib.Core.Path.{_≡_}
 use mathlib.Core.List.{List, [], _∷_}
 use mathlib.Core.Bool.{Bool, cond}
+use mathlib.Core.Logic.{_⊎_}
 use Prim.Native.Nat.{ℕ, zero, suc, _+_, _*_, _/_, _≤_, _<_}
 use Rattle.std.specs.declared.option.Option.{Option}
 use Rattle.std.specs.declared.option.Option.the-variants.{None, Some}
@@ -69,6 +70,10 @@ walkOn rest (Some d) = rest d
 unfoldable pub walk : (Cell → Option Cell) → ℕ → Cell → List Cell
 walk rule zero c = []
 walk rule (suc n) c = c ∷ walkOn (walk rule n) (rule c)
+
+abbrev pub Visits : List Cell → Cell → Type 0
+Visits [] c = ⊥
+Visits (d ∷ ds) c = (d ≡ c) ⊎ Visits ds c
 
 -- ---- a look: the first cell of the walk that stops the line, and how many cells the walk has stood on by then
 pub record LookResult : Type 0 where
