@@ -3,3 +3,4 @@ pub mod Faces
 pub mod Entry
 pub mod Steps
 pub mod Walk
+pub mod Look

@@ -1,3 +1,4 @@
 pub mod Line
 pub mod Faces
 pub mod Walk
+pub mod Look

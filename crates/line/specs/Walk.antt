@@ -1,7 +1,6 @@
--- Walks from cell to cell along a line, by any rule for the next cell, and looks along them.
+-- Walks from cell to cell along a line from o to t, by any rule for the next cell.
 use mathlib.Core.Path.{_≡_}
 use mathlib.Core.List.{List, [], _∷_}
-use mathlib.Core.Bool.{Bool, cond}
 use mathlib.Core.Logic.{_⊎_}
 use Prim.Native.Nat.{ℕ, zero, suc, _+_, _*_, _/_, _≤_, _<_}
 use Rattle.std.specs.declared.option.Option.{Option}
@@ -74,22 +73,3 @@ walk rule (suc n) c = c ∷ walkOn (walk rule n) (rule c)
 abbrev pub Visits : List Cell → Cell → Type 0
 Visits [] c = ⊥
 Visits (d ∷ ds) c = (d ≡ c) ⊎ Visits ds c
-
--- ---- a look: the first cell of the walk that stops the line, and how many cells the walk has stood on by then
-pub record LookResult : Type 0 where
-  pub hit : Option Cell
-  pub visited : ℕ
-
-abbrev pub clearAfter : ℕ → LookResult
-clearAfter n = record { hit = None; visited = n }
-
-abbrev pub counted : LookResult → LookResult
-counted r = record { hit = r .hit; visited = suc (r .visited) }
-
-abbrev pub lookOn : (Cell → LookResult) → Option Cell → LookResult
-lookOn rest None = clearAfter 1
-lookOn rest (Some d) = counted (rest d)
-
-unfoldable pub look : (Cell → Bool) → (Cell → Option Cell) → ℕ → Cell → LookResult
-look stops rule zero c = clearAfter 0
-look stops rule (suc n) c = cond (stops c) (record { hit = Some c; visited = 1 }) (lookOn (look stops rule n) (rule c))
