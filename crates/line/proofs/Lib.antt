@@ -4,3 +4,4 @@ pub mod Entry
 pub mod Steps
 pub mod Walk
 pub mod Look
+pub mod StepFractions

@@ -2,3 +2,4 @@ pub mod Line
 pub mod Faces
 pub mod Walk
 pub mod Look
+pub mod StepFractions
