@@ -5,7 +5,7 @@ use Prim.Native.Nat.{ℕ, _+_, _-_, _*_, _≤_, _<_}
 use native.Mathlib.Nat.{mul-le-mul-left}
 use native.Mathlib.Decide.{decLt, decLe}
 use native.Mathlib.Omega.{arith}
-use Rattle.line.specs.Line.{Point, Cell, Axis, X, Y, Z, coordinate, index, Share, parts, NoLater, scaledCoordinate, Within, TouchesAt, Touches, Crosses, Entry}
+use Rattle.line.specs.Line.{Point, Cell, Axis, X, Y, Z, coordinate, index, Share, parts, NoLater, Within, TouchesAt, Touches, Crosses, Entry}
 use Rattle.line.specs.Faces.{span, nearDistance, spanOn, nearOn, NearShare, Latest, Entered, Open}
 use Rattle.line.proofs.Shares.{no-later-trans, no-later-refl, zero-no-later, before-target-no-later, cancel-parts-le, rising-was-below, falling-was-above}
 use Rattle.line.proofs.Faces.{near-reached, near-reached-rising, near-reached-falling, crossed-is-open}
@@ -25,9 +25,10 @@ near-or-zero : (o t k : ℕ) (r : Share) → Within r o t k → (s : Share) × N
 near-or-zero o t k r w = elim (decLt 0 (span o t)) [
   | yes p ↦
       let n = nearDistance o t k in
-      let h = near-within-span o t k r w p in
-      (record { gone = n; left = span o t - n; positive = omega arith },
-       record { moving = λ _. record { moves = p; gone = refl; parts = omega arith }; level = λ z. absurd (omega arith) })
+      let h = near-within-span o t k r w p in (
+        record { gone = n; left = span o t - n; positive = omega arith },
+        record { moving = λ _. record { moves = p; gone = refl; parts = omega arith }; level = λ z. absurd (omega arith) },
+      )
   | no p ↦ (record { gone = 0; left = 1; positive = omega arith }, record { moving = λ q. absurd (p q); level = λ _. refl })
 ]
 
@@ -106,7 +107,7 @@ module _ (o t : Point) (c : Cell) (f : Axis → Share) (near : (i : Axis) → Ne
 pub touched-is-entered : (o t : Point) (c : Cell) → Touches o t c → Entered o t c
 touched-is-entered o t c x =
     let face : (i : Axis) → (s : Share) × NearOrZero (coordinate o i) (coordinate t i) (index c i) s =
-        λ i. near-or-zero (coordinate o i) (coordinate t i) (index c i) (x .0) (x .1 i) in
+    λ i. near-or-zero (coordinate o i) (coordinate t i) (index c i) (x .0) (x .1 i) in
     let m = latest-axis (λ i. face i .0) in
     last-is-entry o t c (λ i. face i .0) (λ i. face i .1) (m .0) (m .1) (x .0) (x .1)
 

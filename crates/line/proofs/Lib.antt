@@ -5,3 +5,4 @@ pub mod Steps
 pub mod Walk
 pub mod Look
 pub mod StepFractions
+pub mod Worked

@@ -1,7 +1,7 @@
 -- A look along a walk by least steps is right about the filled cells that the line crosses, and depends only on cells that it touches.
 use mathlib.Core.Path.{_≡_, refl, sym, ap, _∙_, subst}
 use mathlib.Core.List.{List}
-use mathlib.Core.Logic.{_⊎_, inl, inr}
+use mathlib.Core.Logic.{inl, inr}
 use mathlib.Core.Bool.{Bool, true, false, cond, true≢false}
 use Prim.Native.Nat.{ℕ, zero, suc, _+_, _≤_, _<_}
 use native.Mathlib.Omega.{arith}
@@ -11,7 +11,7 @@ use Rattle.std.specs.declared.option.Option.the-variants.{None, Some}
 use Rattle.line.specs.Line.{Point, Cell, Share, NoLater, TouchesAt, Touches, Crosses}
 use Rattle.line.specs.Faces.{Entered}
 use Rattle.line.specs.Walk.{InGrid, cellOf, LeastStep, Choice, Chooses, walkOn, walk, Visits}
-use Rattle.line.specs.Look.{LookResult, counted, lookOn, look, StopsFor, FirstFilled, Answers}
+use Rattle.line.specs.Look.{LookResult, counted, lookOn, look, StopsFor, Answers}
 use Rattle.line.proofs.Shares.{no-later-trans}
 use Rattle.line.proofs.Entry.{touched-is-entered}
 use Rattle.line.proofs.Walk.{AheadOf, StandsAt, least-step-stands, least-step-ahead, least-step-leaves-fewer, end-ahead, stepsLeftFrom, atOnce, start-stands-at-once, start-ahead, start-steps-left, visited-is-touched, walk-is-short}
@@ -121,6 +121,10 @@ module _ (o t : Point) (rule : Cell → Option Cell) (chooses : Chooses o t rule
   look-answers lo lt filled stops f n h =
       answers-filled o t filled stops f (look stops rule n (cellOf o) .hit)
       (answers-from o t rule chooses stops lt n (cellOf o) atOnce (start-stands-at-once o t) (omega (arith, start-steps-left o t lo)))
+
+  -- where the filled cells are just those that stop it
+  pub look-answers-stops : InGrid o → InGrid t → (stops : Cell → Bool) (n : ℕ) → 22 ≤ n → Answers o t stops (look stops rule n (cellOf o) .hit)
+  look-answers-stops lo lt stops n h = look-answers lo lt stops stops (record { only-filled = λ c q. q; each-crossed = λ c x q. q }) n h
 
   pub look-visits-few : InGrid o → InGrid t → (stops : Cell → Bool) (n : ℕ) → look stops rule n (cellOf o) .visited ≤ 22
   look-visits-few lo lt stops n =

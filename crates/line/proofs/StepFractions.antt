@@ -9,7 +9,7 @@ use lib.Dec.{ltb}
 use Rattle.std.specs.declared.option.Option.{Option}
 use Rattle.std.specs.declared.option.Option.the-variants.{None, Some}
 use Rattle.line.specs.Line.{Point, Cell, Axis, X, Y, Z, coordinate, index, Share, parts, NoLater, Within, TouchesAt}
-use Rattle.line.specs.Walk.{InGrid, Step, up, down, Reaches, MayEnd, Choice, Chooses}
+use Rattle.line.specs.Walk.{InGrid, Step, up, down, Reaches, Choice, Chooses}
 use Rattle.line.specs.StepFractions.{StepFraction, NoLaterStep, stepFraction, stepOn, nextIndex, nextOn, cellAt, earlierAxis, leastAxis, stepAlong, leastStepRule}
 use Rattle.line.proofs.Shares.{fraction-trans}
 use Rattle.line.proofs.Steps.{rising-not-past, falling-not-past}
@@ -22,6 +22,29 @@ by-test a b P y z = elim (decLt a b) [
 ]
 
 -- ---- one axis
+
+pub step-fraction-rising : (o t k : ℕ) → o < t → stepFraction o t k ≡ record { gap = 128 * k + 128 - o; size = t - o }
+unfolding stepFraction
+step-fraction-rising o t k u = rw (lt-ltb o t u)
+
+pub step-fraction-falling : (o t k : ℕ) → t < o → stepFraction o t k ≡ record { gap = o - 128 * k; size = o - t }
+unfolding stepFraction
+step-fraction-falling o t k u = let l : t ≤ o = omega arith in rw (le-ltb o t l, lt-ltb t o u)
+
+pub step-fraction-level : (o t k : ℕ) → o ≡ t → stepFraction o t k ≡ record { gap = 1; size = 0 }
+unfolding stepFraction
+step-fraction-level o t k e =
+    let l : t ≤ o = omega arith in
+    let m : o ≤ t = omega arith in
+    rw (le-ltb o t l, le-ltb t o m)
+
+pub next-index-rising : (o t k : ℕ) → o < t → nextIndex o t k ≡ cond (ltb k 7) (Some (k + 1)) None
+unfolding nextIndex
+next-index-rising o t k u = rw (lt-ltb o t u)
+
+pub next-index-falling : (o t k : ℕ) → t ≤ o → nextIndex o t k ≡ cond (ltb 0 k) (Some (k - 1)) None
+unfolding nextIndex
+next-index-falling o t k u = rw (le-ltb o t u)
 
 -- the step fraction f and the next index y from the cell k, by direction
 data StepFrom (o t k : ℕ) (f : StepFraction) (y : Option ℕ) : Type 0 where

@@ -88,9 +88,6 @@ pub record Ahead (o t k c : ℕ) : Type 0 where
   pub up : o ≤ t → k ≤ c
   pub down : t ≤ o → c ≤ k
 
-pub ahead-refl : (o t k : ℕ) → Ahead o t k k
-ahead-refl o t k = record { up = λ u. omega arith; down = λ u. omega arith }
-
 -- a crossed cell is ahead of the cell that o lies in
 pub crossed-ahead-of-start : (o t c : ℕ) (r : Share) → StrictlyWithin r o t c → Ahead o t (o / 128) c
 crossed-ahead-of-start o t c r w = record {

@@ -11,8 +11,8 @@ use Rattle.std.specs.declared.option.Option.{Option}
 use Rattle.std.specs.declared.option.Option.the-variants.{None, Some}
 use Rattle.line.specs.Line.{Point, Cell, Axis, X, Y, Z, coordinate, index, Share, parts, NoLater, Within, StrictlyWithin, TouchesAt, CrossesAt, Touches, Crosses}
 use Rattle.line.specs.Walk.{InGrid, cellOf, withIndex, Step, Least, LeastStep, MayEnd, Choice, Chooses, walkOn, walk, Visits}
-use Rattle.line.proofs.Shares.{Before, no-later-trans, zero-no-later}
-use Rattle.line.proofs.Steps.{step-within-new, within-no-later, inside-before, stays-within, Ahead, ahead-refl, crossed-ahead-of-start, step-keeps-ahead, step-no-later, step-before-crossed, crossed-at-end, stepsLeft, step-uses-one, steps-left-within}
+use Rattle.line.proofs.Shares.{Before, no-later-trans, zero-no-later, cancel-parts-le}
+use Rattle.line.proofs.Steps.{step-within-new, within-no-later, inside-before, stays-within, Ahead, crossed-ahead-of-start, step-keeps-ahead, step-no-later, step-before-crossed, crossed-at-end, stepsLeft, step-uses-one, steps-left-within}
 
 -- ---- a cell with one index changed
 
@@ -87,6 +87,15 @@ pub end-ahead : (o t : Point) (c d : Cell) → MayEnd o t c → Crosses o t d �
 end-ahead o t c d f x h =
     same-indices c d (λ j. sym (crossed-at-end (coordinate o j) (coordinate t j) (index c j) (index d j) (x .0) (f j) (x .1 j) (h j)))
 
+-- ---- a touched cell is one of the grid's
+within-grid : (o t k : ℕ) (s : Share) → o ≤ 1023 → t ≤ 1023 → Within s o t k → k ≤ 7
+within-grid o t k s a b w =
+    let h : 128 * k ≤ 1023 = cancel-parts-le s (128 * k) 1023 (omega (arith, w .low, mul-le-mul-left (s .left) a, mul-le-mul-left (s .gone) b)) in
+    omega arith
+
+pub touched-in-grid : (o t : Point) → InGrid o → InGrid t → (c : Cell) → Touches o t c → (i : Axis) → index c i ≤ 7
+touched-in-grid o t lo lt c x i = within-grid (coordinate o i) (coordinate t i) (index c i) (x .0) (lo i) (lt i) (x .1 i)
+
 -- ---- the steps left on all axes
 abbrev stepsLeftOn : Point → Point → Cell → Axis → ℕ
 stepsLeftOn o t c i = stepsLeft (coordinate o i) (coordinate t i) (index c i)
@@ -131,7 +140,7 @@ pub start-steps-left : (o t : Point) → InGrid o → stepsLeftFrom o t (cellOf 
 unfolding stepsLeftFrom
 start-steps-left o t l =
     let within : (j : Axis) → stepsLeftOn o t (cellOf o) j ≤ 7 =
-        λ j. steps-left-within (coordinate o j) (coordinate t j) (index (cellOf o) j) (omega (arith, index-of-start o j, l j)) in
+    λ j. steps-left-within (coordinate o j) (coordinate t j) (index (cellOf o) j) (omega (arith, index-of-start o j, l j)) in
     omega (arith, within X, within Y, within Z)
 
 -- the share 0

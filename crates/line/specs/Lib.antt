@@ -3,3 +3,4 @@ pub mod Faces
 pub mod Walk
 pub mod Look
 pub mod StepFractions
+pub mod Exact
