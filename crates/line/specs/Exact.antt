@@ -17,7 +17,7 @@ pub record Exact (o t : Point) (rule : Cell → Option Cell) : Type 0 where
   pub crossed-is-visited : (n : ℕ) → 22 ≤ n → (c : Cell) → Crosses o t c → Visits (walk rule n (cellOf o)) c
   pub visited-is-touched : (n : ℕ) (c : Cell) → Visits (walk rule n (cellOf o)) c → Touches o t c
   pub walk-is-short : (n : ℕ) → length (walk rule n (cellOf o)) ≤ 22
-  -- a clear look means that the line crosses no filled cell, and a cell that it names is filled, and entered no later than any that the line crosses is touched
+  -- clear: the line crosses no filled cell; else the cell named is filled, and entered no later than the line touches any filled cell that it crosses
   pub look-answers : (filled stops : Cell → Bool) → StopsFor o t filled stops → (n : ℕ) → 22 ≤ n → Answers o t filled (look stops rule n (cellOf o) .hit)
   pub look-visits-few : (stops : Cell → Bool) (n : ℕ) → look stops rule n (cellOf o) .visited ≤ 22
   pub same-on-touched : (stops stops' : Cell → Bool) → ((c : Cell) → Touches o t c → stops c ≡ stops' c) → (n : ℕ)
