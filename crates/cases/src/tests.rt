@@ -16,16 +16,16 @@ use stores::cell_store::CellStore;
 use stores::cell_store::StoreRefusal;
 use stores::cell_store::StoreRefusalDebug;
 use stores::cell_store::StoreRefusalPartialEq;
-use voxels::chunk::Chunk;
-use voxels::chunk_cast::ChunkCast;
 use stores::few_store::FewStore;
 use stores::few_store::cells::FewCellStore;
+use stores::table_store::TableStore;
+use stores::table_store::cells::TableCellStore;
+use voxels::chunk::Chunk;
+use voxels::chunk_cast::ChunkCast;
 use voxels::frame::ChunkFrame;
 use voxels::refusal::Refusal;
 use voxels::refusal::RefusalDebug;
 use voxels::refusal::RefusalPartialEq;
-use stores::table_store::TableStore;
-use stores::table_store::cells::TableCellStore;
 
 fn check_hit(
     hit: Option<RayIntersection>,

@@ -15,12 +15,12 @@ use sight::scan::Scan;
 use std::alloc::AllocError;
 use std::alloc::Global;
 use stores::cell_store::CellStore;
+use stores::table_store::TableStore;
+use stores::table_store::cells::TableCellStore;
 use voxels::chunk::Chunk;
 use voxels::chunk_cast::ChunkCast;
 use voxels::frame::ChunkFrame;
 use voxels::refusal::Refusal;
-use stores::table_store::TableStore;
-use stores::table_store::cells::TableCellStore;
 
 // The bits of a number, for comparing as numbers: both zeros are one, and so are all NaNs.
 fn number_bits(x: f32) -> u32 {

@@ -5,4 +5,3 @@ pub mod BoundingSphere
 pub mod Cuboid
 pub mod Triangle
 pub mod Shape
-pub mod Worked

@@ -1,8 +1,8 @@
 // A chunk: 8 by 8 by 8 cells in a frame.
-use stores::cell_store::CellStore;
 use crate::frame::ChunkFrame;
 use crate::geometry::cell_number;
 use crate::voxel_key::VoxelKey;
+use stores::cell_store::CellStore;
 ghost use mathlib.Core.Path.{_≡_};
 ghost use Prim.Native.Nat.{ℕ};
 ghost use Rattle.voxels.specs.Frame.{kindAt};

@@ -1,5 +1,4 @@
 // The cast of a chunk: a walk from cell to cell along the ray.
-use stores::cell_store::CellStore;
 use crate::chunk::Chunk;
 use crate::chunk_cast::ChunkCast;
 use crate::chunk_cast::Turn;
@@ -11,6 +10,7 @@ use query::ray::Ray;
 use query::ray::RayCast;
 use query::ray::RayIntersection;
 use query::ray_aabb::AabbRayCast;
+use stores::cell_store::CellStore;
 ghost use mathlib.Core.Path.{_≡_};
 ghost use Prim.Native.Nat.{_≤_};
 ghost use Rattle.voxels.specs.Chunk.{stops, cellHit, turnAt, walk, chunkCast, NamesCell};
