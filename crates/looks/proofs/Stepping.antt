@@ -20,6 +20,13 @@ use Rattle.scalar.proofs.Order.{le-trans, le-of-lt, lt-of-le-of-lt, lt-trans, n
 use Rattle.scalar.proofs.Values.{value-number, one-value, largest-value, lt-of-values}
 use Rattle.scalar.proofs.Grid.{offset-exact, zero-on-grid, grid-lt}
 use Rattle.scalar.proofs.Shares.{quotient-close, quotient-lt, close-number, close-above-one, close-below-largest, plane-terms}
+use Rattle.math.specs.declared.Vector.{Vector}
+use Rattle.math.specs.declared.Axis.{Axis as VectorAxis}
+use Rattle.math.specs.declared.Axis.the-variants.{X as Vx, Y as Vy, Z as Vz}
+use Rattle.math.specs.Vectors.{minPosition}
+use Rattle.line.specs.Line.{Point, Cell, Axis, X, Y, Z, coordinate, index, Share, TouchesAt}
+use Rattle.line.proofs.Shares.{fraction-trans}
+use Rattle.line.proofs.StepFractions.{no-later-step-trans}
 use Rattle.line.specs.StepFractions.{StepFraction, NoLaterStep, stepFraction, stepOn, nextIndex, nextOn, cellAt}
 
 -- ---- the time v of the step fraction f: its quotient, rounded once, or the largest value where the line keeps its height
@@ -44,3 +51,47 @@ step-time-lt f g v w (still p q e) (still p' q' e') =
     rw (e, e')
     (is-false (lt largest largest) (lt-irrefl largest)
     ∙ sym (le-ltb (f .gap * g .size) (g .gap * f .size) (omega (arith, ap (λ (i : ℕ). f .gap * i) q', ap (λ (i : ℕ). g .gap * i) q))))
+
+-- ---- three axes
+abbrev pub lineAxis : VectorAxis → Axis
+lineAxis Vx = X
+lineAxis Vy = Y
+lineAxis Vz = Z
+
+abbrev pub timeOn : Vector → Axis → Float
+timeOn v X = v .x
+timeOn v Y = v .y
+timeOn v Z = v .z
+
+on-three : (P : Axis → Type 0) → P X → P Y → P Z → (j : Axis) → P j
+on-three P a b c X = a
+on-three P a b c Y = b
+on-three P a b c Z = c
+
+-- v holds the times of the three steps from the cell c
+module _ (o t : Point) (c : Cell) (v : Vector) (at : (i : Axis) → StepTimeOf (stepOn o t c i) (timeOn v i)) where
+  abbrev NoLaterOn : Axis → Axis → Type 0
+  NoLaterOn i j = NoLaterStep (stepOn o t c i) (stepOn o t c j)
+
+  no-later-of-lt : (i j : Axis) → lt (timeOn v i) (timeOn v j) ≡ true → NoLaterOn i j
+  no-later-of-lt i j h =
+      let l = ltb-true (stepOn o t c i .gap * stepOn o t c j .size) (stepOn o t c j .gap * stepOn o t c i .size) (sym (step-time-lt (stepOn o t c i) (stepOn o t c j) (timeOn v i) (timeOn v j) (at i) (at j)) ∙ h) in
+      omega arith
+
+  no-later-of-not-lt : (i j : Axis) → lt (timeOn v i) (timeOn v j) ≡ false → NoLaterOn j i
+  no-later-of-not-lt i j h =
+      ltb-false (stepOn o t c i .gap * stepOn o t c j .size) (stepOn o t c j .gap * stepOn o t c i .size) (sym (step-time-lt (stepOn o t c i) (stepOn o t c j) (timeOn v i) (timeOn v j) (at i) (at j)) ∙ h)
+
+  -- the position of the least time is an axis of least step fraction
+  pub min-position-least : (j : Axis) → NoLaterStep (stepOn o t c (lineAxis (minPosition v))) (stepOn o t c j)
+  unfolding minPosition
+  min-position-least =
+      let Least = λ (a : VectorAxis). (j : Axis) → NoLaterOn (lineAxis a) j in
+      let trans = no-later-step-trans o t c in
+      cond-both (lt (v .y) (v .x)) (cond (lt (v .z) (v .y)) Vz Vy) (cond (lt (v .z) (v .x)) Vz Vx) Least
+      (λ h. cond-both (lt (v .z) (v .y)) Vz Vy Least
+        (λ k. on-three (NoLaterOn Z) (trans Z Y X (no-later-of-lt Z Y k) (no-later-of-lt Y X h)) (no-later-of-lt Z Y k) (omega arith))
+        (λ k. on-three (NoLaterOn Y) (no-later-of-lt Y X h) (omega arith) (no-later-of-not-lt Z Y k)))
+      (λ h. cond-both (lt (v .z) (v .x)) Vz Vx Least
+        (λ k. on-three (NoLaterOn Z) (no-later-of-lt Z X k) (trans Z X Y (no-later-of-lt Z X k) (no-later-of-not-lt Y X h)) (omega arith))
+        (λ k. on-three (NoLaterOn X) (omega arith) (no-later-of-not-lt Y X h) (no-later-of-not-lt Z X k)))
