@@ -16,7 +16,7 @@ use Rattle.std.specs.declared.option.Option.the-variants.{None, Some}
 use Rattle.scalar.specs.Single.{minus, over, zero, one, largest, Number}
 use Rattle.scalar.specs.Grid.{OnGrid, place, away}
 use Rattle.scalar.specs.Shares.{Close, Terms, NotNegative, isNegative}
-use Rattle.scalar.proofs.Order.{le-trans, le-of-lt, lt-of-le-of-lt, lt-trans, not-lt-of-le, le-of-not-lt, lt-irrefl}
+use Rattle.scalar.proofs.Order.{le-trans, le-of-lt, lt-of-le-of-lt, lt-trans, not-lt-of-le, le-of-not-lt, le-left, lt-irrefl}
 use Rattle.scalar.proofs.Values.{value-number, one-value, largest-value, lt-of-values}
 use Rattle.scalar.proofs.Grid.{offset-exact, zero-on-grid, grid-lt}
 use Rattle.scalar.proofs.Shares.{quotient-close, quotient-lt, close-number, close-above-one, close-below-largest, plane-terms}
@@ -24,9 +24,11 @@ use Rattle.math.specs.declared.Vector.{Vector}
 use Rattle.math.specs.declared.Axis.{Axis as VectorAxis}
 use Rattle.math.specs.declared.Axis.the-variants.{X as Vx, Y as Vy, Z as Vz}
 use Rattle.math.specs.Vectors.{minPosition}
+use Rattle.voxels.specs.Chunk.{allLater}
 use Rattle.line.specs.Line.{Point, Cell, Axis, X, Y, Z, coordinate, index, Share, TouchesAt}
 use Rattle.line.proofs.Shares.{fraction-trans}
-use Rattle.line.proofs.StepFractions.{no-later-step-trans}
+use Rattle.line.proofs.StepFractions.{step-fraction-level, no-later-step-trans, choice-to-end, choice-to-step}
+use Rattle.line.specs.Walk.{InGrid, Choice}
 use Rattle.line.specs.StepFractions.{StepFraction, NoLaterStep, stepFraction, stepOn, nextIndex, nextOn, cellAt}
 
 -- ---- the time v of the step fraction f: its quotient, rounded once, or the largest value where the line keeps its height
@@ -95,3 +97,92 @@ module _ (o t : Point) (c : Cell) (v : Vector) (at : (i : Axis) → StepTimeOf (
       (λ h. cond-both (lt (v .z) (v .x)) Vz Vx Least
         (λ k. on-three (NoLaterOn Z) (no-later-of-lt Z X k) (trans Z X Y (no-later-of-lt Z X k) (no-later-of-not-lt Y X h)) (omega arith))
         (λ k. on-three (NoLaterOn X) (omega arith) (no-later-of-not-lt Y X h) (no-later-of-not-lt Z X k)))
+
+-- ---- against the limit
+
+-- all that is before one is before x
+abbrev pub AfterEarly : Float → Type 0
+AfterEarly x = (s : Bool) (p q : ℕ) (v : Float) → q ≤ 1023 → p < q → Close s p q v → T (lt v x)
+
+-- the limit is one at most and, where the line moves at all, later than all that is before one
+pub record LimitAtTarget (o t : Point) (limit : Float) : Type 0 where
+  pub no-later : T (le limit one)
+  pub no-earlier : (i : Axis) → (coordinate o i ≡ coordinate t i → ⊥) → AfterEarly limit
+
+one-below-largest : T (lt one largest)
+one-below-largest = lt-of-values one largest false 1 1 (16777215 * 2 ^ 104) 1 (omega arith) (omega arith) one-value largest-value (omega arith)
+
+step-time-number : (f : StepFraction) (v : Float) → StepTimeOf f v → Number v
+step-time-number f v (moves s t x y a n e) = subst⁻¹ Number e (close-number (unlike s t) (f .gap) (f .size) (over x y) (quotient-close s t (f .gap) (f .size) x y a))
+step-time-number f v (still p q e) = subst⁻¹ Number e (value-number largest false (16777215 * 2 ^ 104) 1 largest-value)
+
+-- a fraction past one has a time past one
+past-one : (f : StepFraction) (v : Float) → StepTimeOf f v → f .size < f .gap → T (lt one v)
+past-one f v (moves s t x y a n e) h = subst⁻¹ (λ (w : Float). T (lt one w)) e (by-sign (unlike s t) n (quotient-close s t (f .gap) (f .size) x y a))
+  where
+    by-sign : (b : Bool) → NotNegative b (f .gap) → Close b (f .gap) (f .size) (over x y) → T (lt one (over x y))
+    by-sign false n c = close-above-one (f .gap) (f .size) (over x y) (a .q-least) (a .q-most) h c
+    by-sign true n c = absurd (omega (arith, n refl))
+past-one f v (still p q e) h = subst⁻¹ (λ (w : Float). T (lt one w)) e one-below-largest
+
+-- a time up to one has a fraction up to one
+within-one : (f : StepFraction) (v : Float) → StepTimeOf f v → T (le v one) → f .gap ≤ f .size
+within-one f v a h = elim (cases-lt (f .size) (f .gap)) [
+  | inl l ↦ absurd (T-not (lt one v) (not-lt-of-le v one h) (past-one f v a l))
+  | inr l ↦ l
+]
+
+-- a time past the limit has a fraction at one or later
+past-limit : (f : StepFraction) (v limit : Float) → StepTimeOf f v → (0 < f .size → AfterEarly limit) → T (lt limit v) → f .size ≤ f .gap
+past-limit f v limit (still p q e) late h = omega arith
+past-limit f v limit (moves s t x y a n e) late h = elim (cases-lt (f .gap) (f .size)) [
+  | inl l ↦
+      let k : T (lt v limit) = subst⁻¹ (λ (w : Float). T (lt w limit)) e (late (a .q-least) (unlike s t) (f .gap) (f .size) (over x y) (a .q-most) l (quotient-close s t (f .gap) (f .size) x y a)) in
+      absurd (T-not (lt limit v) (not-lt-of-le v limit (le-of-lt v limit k)) h)
+  | inr l ↦ l
+]
+
+step-moves : (o t k : ℕ) → 0 < stepFraction o t k .size → o ≡ t → ⊥
+step-moves o t k h e = omega (arith, h, ap (λ (f : StepFraction). f .size) (step-fraction-level o t k e))
+
+all-later-on : (v : Vector) (limit : Float) → allLater v limit ≡ true → (j : Axis) → lt limit (timeOn v j) ≡ true
+all-later-on v limit h =
+    let p = and-parts (lt limit (v .x)) (lt limit (v .y) && lt limit (v .z)) h in
+    let q = and-parts (lt limit (v .y)) (lt limit (v .z)) (p .1) in
+    on-three (λ j. lt limit (timeOn v j) ≡ true) (p .0) (q .0) (q .1)
+
+some-not-later : (v : Vector) (limit : Float) → allLater v limit ≡ false → (j : Axis) × (lt limit (timeOn v j) ≡ false)
+some-not-later v limit h = elim (and-cases (lt limit (v .x)) (lt limit (v .y) && lt limit (v .z)) h) [
+  | inl p ↦ (X, p)
+  | inr p ↦ elim (and-cases (lt limit (v .y)) (lt limit (v .z)) p) [ inl q ↦ (Y, q) | inr q ↦ (Z, q) ]
+]
+
+-- ---- at a touched cell: none where all times are past the limit, else along the position of the least time
+module _ (o t : Point) (c : Cell) (e : Share) (a : TouchesAt o t c e) (l : InGrid t) (v : Vector) (at : (i : Axis) → StepTimeOf (stepOn o t c i) (timeOn v i))
+    (limit : Float) (ends : LimitAtTarget o t limit) where
+  abbrev first : Axis
+  first = lineAxis (minPosition v)
+
+  first-within-one : (j : Axis) → lt limit (timeOn v j) ≡ false → stepOn o t c first .gap ≤ stepOn o t c first .size
+  first-within-one j h =
+      let w = timeOn v j in
+      let f = stepOn o t c first in
+      let g = stepOn o t c j in
+      let k : T (le w limit) = le-of-not-lt limit w (le-left limit one (ends .no-later)) (step-time-number g w (at j)) (subst⁻¹ (λ (b : Bool). T (not b)) h tt) in
+      let m : g .gap ≤ g .size = within-one g w (at j) (le-trans w limit one k (ends .no-later)) in
+      let z : 0 < g .gap + g .size = not-empty g w (at j) in
+      omega (arith, fraction-trans (f .gap) (f .size) (g .gap) (g .size) 1 1 z (min-position-least o t c v at j) (omega arith))
+    where
+      not-empty : (f : StepFraction) (v : Float) → StepTimeOf f v → 0 < f .gap + f .size
+      not-empty f v (moves s t x y a n e) = omega (arith, a .q-least)
+      not-empty f v (still p q e) = omega arith
+
+  pub choice-by-times : Choice o t c (cond (allLater v limit) None (cellAt c first (nextOn o t c first)))
+  choice-by-times =
+      cond-both (allLater v limit) None (cellAt c first (nextOn o t c first)) (Choice o t c)
+      (λ h. choice-to-end o t c e a l first (min-position-least o t c v at)
+        (past-limit (stepOn o t c first) (timeOn v first) limit (at first)
+        (λ p. ends .no-earlier first (step-moves (coordinate o first) (coordinate t first) (index c first) p))
+        (subst⁻¹ T (all-later-on v limit h first) tt)))
+      (λ h. let p = some-not-later v limit h in
+        choice-to-step o t c e a l first (min-position-least o t c v at) (first-within-one (p .0) (p .1)) (nextOn o t c first) refl)
