@@ -17,17 +17,18 @@ use Rattle.scalar.specs.Single.{minus, over, zero, one, largest, Number}
 use Rattle.scalar.specs.Grid.{OnGrid, place, away}
 use Rattle.scalar.specs.Shares.{Close, Terms, NotNegative, isNegative}
 use Rattle.scalar.proofs.Order.{le-trans, le-of-lt, lt-of-le-of-lt, lt-trans, not-lt-of-le, le-of-not-lt, le-left, lt-irrefl}
-use Rattle.scalar.proofs.Values.{value-number, one-value, largest-value, lt-of-values}
+use Rattle.scalar.proofs.Values.{value-number, zero-value, one-value, largest-value, lt-is, lt-of-values}
 use Rattle.scalar.proofs.Grid.{offset-exact, zero-on-grid, grid-lt}
-use Rattle.scalar.proofs.Shares.{quotient-close, quotient-lt, close-number, close-above-one, close-below-largest, plane-terms}
+use Rattle.scalar.proofs.Shares.{quotient-close, quotient-lt, close-number, close-zero, close-not-below-zero, close-above-one, close-below-largest, plane-terms}
 use Rattle.math.specs.declared.Vector.{Vector}
 use Rattle.math.specs.declared.Axis.{Axis as VectorAxis}
 use Rattle.math.specs.declared.Axis.the-variants.{X as Vx, Y as Vy, Z as Vz}
 use Rattle.math.specs.Vectors.{minPosition}
-use Rattle.voxels.specs.Chunk.{allLater}
-use Rattle.line.specs.Line.{Point, Cell, Axis, X, Y, Z, coordinate, index, Share, TouchesAt}
+use Rattle.voxels.specs.Chunk.{fromZero, stepTime, allLater, nextPlace}
+use Rattle.line.specs.Line.{Point, Cell, Axis, X, Y, Z, coordinate, index, Share, Within, TouchesAt}
+use Rattle.line.proofs.Steps.{rising-not-past, falling-not-past}
 use Rattle.line.proofs.Shares.{fraction-trans}
-use Rattle.line.proofs.StepFractions.{step-fraction-level, no-later-step-trans, choice-to-end, choice-to-step}
+use Rattle.line.proofs.StepFractions.{step-fraction-rising, step-fraction-falling, step-fraction-level, no-later-step-trans, choice-to-end, choice-to-step}
 use Rattle.line.specs.Walk.{InGrid, Choice}
 use Rattle.line.specs.StepFractions.{StepFraction, NoLaterStep, stepFraction, stepOn, nextIndex, nextOn, cellAt}
 
@@ -186,3 +187,33 @@ module _ (o t : Point) (c : Cell) (e : Share) (a : TouchesAt o t c e) (l : InGri
         (subst⁻¹ T (all-later-on v limit h first) tt)))
       (λ h. let p = some-not-later v limit h in
         choice-to-step o t c e a l first (min-position-least o t c v at) (first-within-one (p .0) (p .1)) (nextOn o t c first) refl)
+
+-- ---- one axis: x is the camera, at the grid number g, y the target, at h, and lo and hi are the faces of the cell n, which the line touches
+
+-- a time is not below zero, though it may be the negative zero
+quotient-kept : (s t : Bool) (p q : ℕ) (x y : Float) → Terms s t p q x y → NotNegative (unlike s t) p → fromZero (over x y) ≡ over x y
+quotient-kept s t p q x y a n = rw (by-sign (unlike s t) n (quotient-close s t p q x y a))
+  where
+    by-sign : (b : Bool) → NotNegative b p → Close b p q (over x y) → lt (over x y) zero ≡ false
+    by-sign false n c = is-false (lt (over x y) zero) (not-lt-of-le zero (over x y) (close-not-below-zero p q (over x y) c))
+    by-sign true n c =
+        lt-is (over x y) zero true false 0 0 1 (omega arith) (close-zero true q (over x y) (a .q-least) (subst (λ (i : ℕ). Close true i q (over x y)) (n refl) c)) zero-value
+
+module _ (u : ℕ) (x y lo hi : Float) (key : ℤ) (g h n : ℕ) (K : u ≤ 20) (l : natAbs key ≤ 4096) (G : g ≤ 1023) (H : h ≤ 1023) (N : n ≤ 7)
+    (XG : OnGrid x u (place key g)) (YG : OnGrid y u (place key h)) (L : OnGrid lo u (place key (128 * n))) (U : OnGrid hi u (place key (128 * n + 128))) where
+  direction-exact : OnGrid (minus y x) u (away h g)
+  direction-exact = offset-exact u x y key g h K l (omega arith) (omega arith) XG YG
+
+  rises : lt zero (minus y x) ≡ ltb g h
+  rises =
+      let e : ltZ (pos 0) (away h g) ≡ ltb g h = grind (arith, ints) in
+      grid-lt u zero (minus y x) (pos 0) (away h g) (zero-on-grid u) direction-exact ∙ e
+
+  falls : lt (minus y x) zero ≡ ltb h g
+  falls =
+      let e : ltZ (away h g) (pos 0) ≡ ltb h g = grind (arith, ints) in
+      grid-lt u (minus y x) zero (away h g) (pos 0) direction-exact (zero-on-grid u) ∙ e
+
+  pub next-place-exact : nextPlace n (minus y x) ≡ nextIndex g h n
+  unfolding nextPlace nextIndex
+  next-place-exact = rw rises
