@@ -217,3 +217,53 @@ module _ (u : ℕ) (x y lo hi : Float) (key : ℤ) (g h n : ℕ) (K : u ≤ 20) 
   pub next-place-exact : nextPlace n (minus y x) ≡ nextIndex g h n
   unfolding nextPlace nextIndex
   next-place-exact = rw rises
+
+  rising-terms : g < h → g ≤ 128 * n + 128 → Terms false false (128 * n + 128 - g) (h - g) (minus hi x) (minus y x)
+  rising-terms m r =
+      let i = 128 * n + 128 in
+      let z : away i g ≡ pos (i - g) = omega (arith, ints) in
+      let w : away h g ≡ pos (h - g) = omega (arith, ints) in
+      subst (λ (b : ℤ). Terms false (isNegative b) (i - g) (natAbs b) (minus hi x) (minus y x)) w
+      (subst (λ (b : ℤ). Terms (isNegative b) (isNegative (away h g)) (natAbs b) (natAbs (away h g)) (minus hi x) (minus y x)) z
+      (plane-terms u x y hi key g h i K l G H (omega arith) XG YG U (λ e. omega arith)))
+
+  falling-terms : h < g → 128 * n ≤ g → Terms (isNegative (away (128 * n) g)) true (g - 128 * n) (g - h) (minus lo x) (minus y x)
+  falling-terms m r =
+      let i = 128 * n in
+      let z : natAbs (away i g) ≡ g - i = omega (arith, ints) in
+      let w : away h g ≡ negsuc (g - h - 1) = omega (arith, ints) in
+      let v : suc (g - h - 1) ≡ g - h = omega arith in
+      subst (λ (j : ℕ). Terms (isNegative (away i g)) true (g - i) j (minus lo x) (minus y x)) v
+      (subst (λ (b : ℤ). Terms (isNegative (away i g)) (isNegative b) (g - i) (natAbs b) (minus lo x) (minus y x)) w
+      (subst (λ (j : ℕ). Terms (isNegative (away i g)) (isNegative (away h g)) j (natAbs (away h g)) (minus lo x) (minus y x)) z
+      (plane-terms u x y lo key g h i K l G H (omega arith) XG YG L (λ e. omega arith))))
+
+  falling-not-negative : 128 * n ≤ g → NotNegative (unlike (isNegative (away (128 * n) g)) true) (g - 128 * n)
+  falling-not-negative r e = elim (cases-lt (128 * n) g) [
+    | inl m ↦
+        let z : away (128 * n) g ≡ negsuc (g - 128 * n - 1) = omega (arith, ints) in
+        absurd (true≢false (sym e ∙ ap (λ (b : ℤ). unlike (isNegative b) true) z))
+    | inr m ↦ omega arith
+  ]
+
+  pub step-time-exact : (s : Share) → Within s g h n → StepTimeOf (stepFraction g h n) (stepTime lo hi x (minus y x))
+  unfolding stepTime
+  step-time-exact s w = elim (cases-order g h) [
+    | inl e ↦
+        subst⁻¹ (λ (f : StepFraction). StepTimeOf f (stepTime lo hi x (minus y x))) (step-fraction-level g h n e)
+        (still refl refl (rw (rises, falls, le-ltb g h (omega arith), le-ltb h g (omega arith))))
+    | inr (inl m) ↦
+        let a = rising-terms m (rising-not-past g h n s m w) in
+        let k : NotNegative (unlike false false) (128 * n + 128 - g) = λ e. absurd (true≢false (sym e)) in
+        subst⁻¹ (λ (f : StepFraction). StepTimeOf f (stepTime lo hi x (minus y x))) (step-fraction-rising g h n m)
+        (moves false false (minus hi x) (minus y x) a k
+        (rw (rises, lt-ltb g h m) (quotient-kept false false (128 * n + 128 - g) (h - g) (minus hi x) (minus y x) a k)))
+    | inr (inr m) ↦
+        let r = falling-not-past g h n s m w in
+        let a = falling-terms m r in
+        let k = falling-not-negative r in
+        let b = isNegative (away (128 * n) g) in
+        subst⁻¹ (λ (f : StepFraction). StepTimeOf f (stepTime lo hi x (minus y x))) (step-fraction-falling g h n m)
+        (moves b true (minus lo x) (minus y x) a k
+        (rw (rises, falls, le-ltb g h (omega arith), lt-ltb h g m) (quotient-kept b true (g - 128 * n) (g - h) (minus lo x) (minus y x) a k)))
+  ]
