@@ -13,23 +13,39 @@ use Rattle.std.proofs.shelf.Signed.{ints}
 use Rattle.std.proofs.shelf.Tests.{cases-bool, cases-lt, cases-order, cond-both, and-parts, and-cases, lt-ltb, le-ltb, ltb-true, ltb-false}
 use Rattle.std.specs.declared.option.Option.{Option}
 use Rattle.std.specs.declared.option.Option.the-variants.{None, Some}
-use Rattle.scalar.specs.Single.{minus, over, zero, one, largest, Number}
-use Rattle.scalar.specs.Grid.{OnGrid, place, away}
+use Rattle.scalar.specs.Single.{plus, minus, over, zero, one, two, largest, Number}
+use Rattle.scalar.specs.Grid.{OnGrid, IsCell, place, away}
 use Rattle.scalar.specs.Shares.{Close, Terms, NotNegative, isNegative}
 use Rattle.scalar.proofs.Order.{le-trans, le-of-lt, lt-of-le-of-lt, lt-trans, not-lt-of-le, le-of-not-lt, le-left, lt-irrefl}
 use Rattle.scalar.proofs.Values.{value-number, zero-value, one-value, largest-value, lt-is, lt-of-values}
-use Rattle.scalar.proofs.Grid.{offset-exact, zero-on-grid, grid-lt}
+use Rattle.scalar.proofs.Grid.{offset-exact, zero-on-grid, grid-lt, cell-over-two, low-face-exact, high-face-exact}
 use Rattle.scalar.proofs.Shares.{quotient-close, quotient-lt, close-number, close-zero, close-not-below-zero, close-above-one, close-below-largest, plane-terms}
 use Rattle.math.specs.declared.Vector.{Vector}
 use Rattle.math.specs.declared.Axis.{Axis as VectorAxis}
 use Rattle.math.specs.declared.Axis.the-variants.{X as Vx, Y as Vy, Z as Vz}
 use Rattle.math.specs.Vectors.{minPosition}
-use Rattle.voxels.specs.Chunk.{fromZero, stepTime, allLater, nextPlace}
+use Rattle.query.specs.declared.ray.Ray.{Ray}
+use Rattle.query.specs.Cast.{andThen}
+use Rattle.voxels.specs.declared.frame.ChunkFrame.{ChunkFrame}
+use Rattle.voxels.specs.declared.«voxel_key».VoxelKey.{VoxelKey}
+use Rattle.voxels.specs.declared.«chunk_cast».Turn.{Turn}
+use Rattle.voxels.specs.declared.«chunk_cast».Turn.the-variants.{Hit, Stop, Step}
+use Rattle.voxels.specs.Lawful.{exponentFits}
+use Rattle.voxels.specs.Frame.{centre, cellBox}
+use Rattle.voxels.specs.Chunk.{fromZero, stepTime, stepTimes, allLater, nextPlace, atX, atY, atZ, nextKey, stepTo, stepFrom}
+use Rattle.voxels.proofs.Bounds.{key-bound, exponent-bound}
+use Rattle.sight.specs.declared.«grid_point».GridPoint.{GridPoint}
+use Rattle.sight.specs.Power.{powerOfTwo, cube}
+use Rattle.sight.specs.Sight.{sightLine}
+use Rattle.sight.proofs.Powers.{power-is-cell}
+use Rattle.sight.proofs.Positions.{metres, axis-position-exact}
+use Rattle.looks.specs.Units.{pointOf, cellOfKey, keyOfCell}
 use Rattle.line.specs.Line.{Point, Cell, Axis, X, Y, Z, coordinate, index, Share, Within, TouchesAt}
 use Rattle.line.proofs.Steps.{rising-not-past, falling-not-past}
 use Rattle.line.proofs.Shares.{fraction-trans}
 use Rattle.line.proofs.StepFractions.{step-fraction-rising, step-fraction-falling, step-fraction-level, no-later-step-trans, choice-to-end, choice-to-step}
-use Rattle.line.specs.Walk.{InGrid, Choice}
+use Rattle.line.specs.Walk.{InGrid, Choice, Chooses}
+use Rattle.line.proofs.Walk.{touched-in-grid}
 use Rattle.line.specs.StepFractions.{StepFraction, NoLaterStep, stepFraction, stepOn, nextIndex, nextOn, cellAt}
 
 -- ---- the time v of the step fraction f: its quotient, rounded once, or the largest value where the line keeps its height
@@ -267,3 +283,106 @@ module _ (u : ℕ) (x y lo hi : Float) (key : ℤ) (g h n : ℕ) (K : u ≤ 20) 
         (moves b true (minus lo x) (minus y x) a k
         (rw (rises, falls, le-ltb g h (omega arith), lt-ltb h g m) (quotient-kept b true (g - 128 * n) (g - h) (minus lo x) (minus y x) a k)))
   ]
+
+-- ---- one axis of a chunk whose cells are cubes of 2^e metres: `size` is 2^e, and the camera and the target are at the grid numbers g and h
+record AxisStep (e key : ℤ) (size : Float) (g h n : ℕ) : Type 0 where
+  time : (s : Share) → Within s g h n
+      → StepTimeOf (stepFraction g h n)
+      (stepTime (minus (centre key n size) (over size two)) (plus (centre key n size) (over size two)) (metres e key g) (minus (metres e key h) (metres e key g)))
+  next : nextPlace n (minus (metres e key h) (metres e key g)) ≡ nextIndex g h n
+
+axis-step : (e key : ℤ) (size : Float) (g h n : ℕ) → T (exponentFits (Some e)) → natAbs key ≤ 4096 → size ≡ powerOfTwo e → g ≤ 1023 → h ≤ 1023 → n ≤ 7 → AxisStep e key size g h n
+axis-step e key size g h n range l q G H N =
+    let u = natAbs (e +ℤ pos 10) in
+    let b = exponent-bound e range in
+    let K = b .1 in
+    let c : IsCell size u = subst⁻¹ (λ (y : Float). IsCell y u) q (power-is-cell e u (b .0)) in
+    let r = over size two in
+    let re = cell-over-two u size K c in
+    let x = metres e key g in
+    let y = metres e key h in
+    let lo = minus (centre key n size) r in
+    let hi = plus (centre key n size) r in
+    let xe = axis-position-exact e key g range l G in
+    let ye = axis-position-exact e key h range l H in
+    let loe = low-face-exact u size r key n K c re l N in
+    let hie = high-face-exact u size r key n K c re l N in
+    record {
+      time = step-time-exact u x y lo hi key g h n K l G H N xe ye loe hie;
+      next = next-place-exact u x y lo hi key g h n K l G H N xe ye loe hie;
+    }
+
+-- ---- the rule: the cell that the step in floats leads to, along a ray up to a limit
+abbrev pub steppedTo : Turn → Option Cell
+steppedTo (Hit h) = None
+steppedTo Stop = None
+steppedTo (Step k) = Some (cellOfKey k)
+
+unfoldable pub floatRule : ChunkFrame → Ray → Float → Cell → Option Cell
+floatRule f r limit c = steppedTo (stepFrom (keyOfCell c) (r .dir) (stepTimes (cellBox f (keyOfCell c)) r) limit)
+
+stepped-unless : (b : Bool) (y : Turn) → steppedTo (cond b Stop y) ≡ cond b None (steppedTo y)
+stepped-unless true y = refl
+stepped-unless false y = refl
+
+stepped-x : (c : Cell) (y : Option ℕ) → steppedTo (stepTo (andThen y (atX (keyOfCell c)))) ≡ cellAt c X y
+stepped-x c None = refl
+stepped-x c (Some n) = refl
+
+stepped-y : (c : Cell) (y : Option ℕ) → steppedTo (stepTo (andThen y (atY (keyOfCell c)))) ≡ cellAt c Y y
+stepped-y c None = refl
+stepped-y c (Some n) = refl
+
+stepped-z : (c : Cell) (y : Option ℕ) → steppedTo (stepTo (andThen y (atZ (keyOfCell c)))) ≡ cellAt c Z y
+stepped-z c None = refl
+stepped-z c (Some n) = refl
+
+pub in-grid : (p : GridPoint) → InGrid (pointOf p)
+in-grid p = on-three (λ i. coordinate (pointOf p) i ≤ 1023) (p .ok .0) (p .ok .1 .0) (p .ok .1 .1)
+
+module _ (f : ChunkFrame) (e : ℤ) (range : T (exponentFits (Some e))) (size : f .«voxel_size» ≡ cube e) (camera target : GridPoint) where
+  abbrev line : Ray
+  line = sightLine e (f .key) camera target
+
+  abbrev from : Point
+  from = pointOf camera
+
+  abbrev to : Point
+  to = pointOf target
+
+  module _ (c : Cell) (few : (i : Axis) → index c i ≤ 7) where
+    step-x : AxisStep e (f .key .x) (f .«voxel_size» .x) (camera .x) (target .x) (c .x)
+    step-x = axis-step e (f .key .x) (f .«voxel_size» .x) (camera .x) (target .x) (c .x) range (key-bound f .0) (ap (λ (v : Vector). v .x) size) (camera .ok .0) (target .ok .0) (few X)
+
+    step-y : AxisStep e (f .key .y) (f .«voxel_size» .y) (camera .y) (target .y) (c .y)
+    step-y = axis-step e (f .key .y) (f .«voxel_size» .y) (camera .y) (target .y) (c .y) range (key-bound f .1) (ap (λ (v : Vector). v .y) size) (camera .ok .1 .0) (target .ok .1 .0) (few Y)
+
+    step-z : AxisStep e (f .key .z) (f .«voxel_size» .z) (camera .z) (target .z) (c .z)
+    step-z = axis-step e (f .key .z) (f .«voxel_size» .z) (camera .z) (target .z) (c .z) range (key-bound f .2) (ap (λ (v : Vector). v .z) size) (camera .ok .1 .1) (target .ok .1 .1) (few Z)
+
+    abbrev times-at : Vector
+    times-at = stepTimes (cellBox f (keyOfCell c)) line
+
+    pub step-times-exact : (s : Share) → TouchesAt from to c s → (i : Axis) → StepTimeOf (stepOn from to c i) (timeOn (stepTimes (cellBox f (keyOfCell c)) line) i)
+    unfolding cellBox
+    step-times-exact s a X = step-x .time s (a X)
+    step-times-exact s a Y = step-y .time s (a Y)
+    step-times-exact s a Z = step-z .time s (a Z)
+
+    next-key-exact : (a : VectorAxis) → steppedTo (stepTo (nextKey (keyOfCell c) (line .dir) a)) ≡ cellAt c (lineAxis a) (nextOn from to c (lineAxis a))
+    next-key-exact Vx = ap (λ (y : Option ℕ). steppedTo (stepTo (andThen y (atX (keyOfCell c))))) (step-x .next) ∙ stepped-x c (nextOn from to c X)
+    next-key-exact Vy = ap (λ (y : Option ℕ). steppedTo (stepTo (andThen y (atY (keyOfCell c))))) (step-y .next) ∙ stepped-y c (nextOn from to c Y)
+    next-key-exact Vz = ap (λ (y : Option ℕ). steppedTo (stepTo (andThen y (atZ (keyOfCell c))))) (step-z .next) ∙ stepped-z c (nextOn from to c Z)
+
+    rule-by-times : (limit : Float) → floatRule f line limit c ≡ cond (allLater times-at limit) None (cellAt c (lineAxis (minPosition times-at)) (nextOn from to c (lineAxis (minPosition times-at))))
+    unfolding floatRule stepFrom
+    rule-by-times limit =
+        stepped-unless (allLater times-at limit) (stepTo (nextKey (keyOfCell c) (line .dir) (minPosition times-at)))
+        ∙ ap (λ (y : Option Cell). cond (allLater times-at limit) None y) (next-key-exact (minPosition times-at))
+
+  -- at every touched cell it takes a least step, or ends where the walk may
+  pub float-rule-chooses-within : (limit : Float) → LimitAtTarget from to limit → Chooses from to (floatRule f line limit)
+  float-rule-chooses-within limit ends c s a =
+      let few = touched-in-grid from to (in-grid camera) (in-grid target) c (s, a) in
+      subst⁻¹ (Choice from to c) (rule-by-times c few limit)
+      (choice-by-times from to c s a (in-grid target) (stepTimes (cellBox f (keyOfCell c)) line) (step-times-exact c few s a) limit ends)
