@@ -1,1 +1,2 @@
+pub mod ClipEnd
 pub mod Stepping
