@@ -87,3 +87,68 @@ earlier-exit-named b t s new h =
         | inr q ↦ inr q
       ]
     ]))
+
+-- ---- one axis: where the line moves along it, P holds of its exit
+pub data Leaves (P : Float → Type 0) (low high o d : Float) : Type 0 where
+  still : eq d zero ≡ true → Leaves P low high o d
+  rising : eq d zero ≡ false → lt (faceTime high o d) (faceTime low o d) ≡ false → T (le (neg largest) (faceTime low o d)) → T (le (faceTime high o d) largest)
+      → P (faceTime high o d) → Leaves P low high o d
+  falling : eq d zero ≡ false → lt (faceTime high o d) (faceTime low o d) ≡ true → T (le (neg largest) (faceTime high o d)) → T (le (faceTime low o d) largest)
+      → P (faceTime low o d) → Leaves P low high o d
+
+-- what the axes so far leave of the line: all of it, where it moves along none of them, as S says
+data Left (P : Float → Type 0) (S : Type 0) (i : Interval) : Type 0 where
+  whole : S → i ≡ wholeLine → Left P S i
+  cut : P (i .far .time) → Named (i .near) → Named (i .far) → Left P S i
+
+same-some : {A : Type 0} (x y : A) → _≡_ {A = Option A} (Some x) (Some y) → x ≡ y
+same-some x y e = cc
+
+kept-is : (i j : Interval) → unlessEmpty i ≡ Some j → i ≡ j
+unfolding unlessEmpty
+kept-is i j =
+    cond-both (lt (i .far .time) zero || lt (i .far .time) (i .near .time)) None (Some i) (λ x. x ≡ Some j → i ≡ j)
+    (λ _ e. none-is-not-some j e) (λ _ e. same-some i j e)
+
+unless-is : (b : Bool) (i j : Interval) → cond b None (Some i) ≡ Some j → i ≡ j
+unless-is true i j e = none-is-not-some j e
+unless-is false i j e = same-some i j e
+
+earlier-exit-time : (P : Float → Type 0) (b : Bound) (t : Float) (s : Side) → P (b .time) → P t → P (earlierExit b t s .time)
+unfolding earlierExit orEdge
+earlier-exit-time P b t s h k =
+    cond-both (lt t (b .time)) (record { time = t; side = s; edge = false }) (orEdge b t) (λ (e : Bound). P (e .time))
+    (λ _. k)
+    (λ _. cond-both (eq t (b .time)) (record { time = b .time; side = b .side; edge = true }) b (λ (e : Bound). P (e .time)) (λ _. h) (λ _. h))
+
+module _ (P : Float → Type 0) (P-largest : P largest) (S : Type 0) (i : Interval) where
+  -- a slab with the entry t and the exit u
+  cut-by-axis : (t u : Float) (s r : Side) → Named (record { time = t; side = s; edge = false }) → Named (record { time = u; side = r; edge = false }) → (Q : Type 0)
+      → T (le (neg largest) t) → T (le u largest) → P u → Left P S i → Left P Q (record { near = laterEntry (i .near) t s; far = earlierExit (i .far) u r })
+  cut-by-axis t u s r new new' Q a b p (whole z e) =
+      let n : T (le (i .near .time) t) = subst⁻¹ (λ (j : Interval). T (le (j .near .time) t)) e a in
+      let f : T (le u (i .far .time)) = subst⁻¹ (λ (j : Interval). T (le u (j .far .time))) e b in
+      let q : P (i .far .time) = subst⁻¹ (λ (j : Interval). P (j .far .time)) e P-largest in
+      cut (earlier-exit-time P (i .far) u r q p) (later-entry-named (i .near) t s new (inr n)) (earlier-exit-named (i .far) u r new' (inr f))
+  cut-by-axis t u s r new new' Q a b p (cut q n f) =
+      cut (earlier-exit-time P (i .far) u r q p) (later-entry-named (i .near) t s new (inl n)) (earlier-exit-named (i .far) u r new' (inl f))
+
+  axis-left : (a : Axis) (low high o d : Float) (j : Interval) → Leaves P low high o d → Left P S i → clipAxis i a low high o d ≡ Some j → Left P (S × (eq d zero ≡ true)) j
+  unfolding clipAxis cutBySlab
+  axis-left a low high o d j (still e) l q =
+      let same : i ≡ j = unless-is (lt o low || lt high o) i j (rw e at q) in
+      subst (Left P (S × (eq d zero ≡ true))) same (kept l)
+    where
+      kept : Left P S i → Left P (S × (eq d zero ≡ true)) i
+      kept (whole s w) = whole (s, e) w
+      kept (cut p n f) = cut p n f
+  axis-left a low high o d j (rising e s n f p) l q =
+      let t = faceTime low o d in
+      let u = faceTime high o d in
+      subst (Left P (S × (eq d zero ≡ true))) (kept-is (record { near = laterEntry (i .near) t (Low a); far = earlierExit (i .far) u (High a) }) j (rw (e, s) at q))
+      (cut-by-axis t u (Low a) (High a) (by-low a refl) (by-high a refl) (S × (eq d zero ≡ true)) n f p l)
+  axis-left a low high o d j (falling e s n f p) l q =
+      let t = faceTime low o d in
+      let u = faceTime high o d in
+      subst (Left P (S × (eq d zero ≡ true))) (kept-is (record { near = laterEntry (i .near) u (High a); far = earlierExit (i .far) t (Low a) }) j (rw (e, s) at q))
+      (cut-by-axis u t (High a) (Low a) (by-high a refl) (by-low a refl) (S × (eq d zero ≡ true)) n f p l)
