@@ -152,3 +152,60 @@ module _ (P : Float → Type 0) (P-largest : P largest) (S : Type 0) (i : Interv
       let u = faceTime high o d in
       subst (Left P (S × (eq d zero ≡ true))) (kept-is (record { near = laterEntry (i .near) u (High a); far = earlierExit (i .far) t (Low a) }) j (rw (e, s) at q))
       (cut-by-axis u t (High a) (Low a) (by-high a refl) (by-low a refl) (S × (eq d zero ≡ true)) n f p l)
+
+-- ---- three axes
+abbrev pub LeavesBox : (Float → Type 0) → Aabb → Vector → Vector → Type 0
+LeavesBox P b o d = (a : Axis) → Leaves P (component (b .mins) a) (component (b .maxs) a) (component o a) (component d a)
+
+abbrev pub Still : Vector → Type 0
+Still d = (a : Axis) → eq (component d a) zero ≡ true
+
+joined-end : (b : Aabb) (o : Vector) (i : Interval) (c : LineClip) (x y : Option Vector) → IsSome x → IsSome y → joinEnds b o i x y ≡ Some c → i .far .time ≡ c .far .time
+joined-end b o i c x y n f e =
+    ap (λ (k : LineClip). k .far .time)
+    (same-some
+    (record { near = record { time = i .near .time; normal = n .0; side = i .near .side }; far = record { time = i .far .time; normal = f .0; side = i .far .side } })
+    c (rw (n .1, f .1) at e))
+
+parameters-end : (c : LineClip) (start end : Float) → rayParameters c ≡ Some (start, end) → c .far .time ≡ end
+parameters-end c start end =
+    cond-both (lt (c .far .time) zero) None (Some (Floats.most (c .near .time) zero, c .far .time)) (λ (x : Option (Float × Float)). x ≡ Some (start, end) → c .far .time ≡ end)
+    (λ _ e. none-is-not-some (start, end) e)
+    (λ _ e. ap (λ (p : Float × Float). p .1) (same-some (Floats.most (c .near .time) zero, c .far .time) (start, end) e))
+
+module _ (P : Float → Type 0) (P-largest : P largest) (b : Aabb) (o d : Vector) (leaves : LeavesBox P b o d) where
+  along-left : (S : Type 0) (i j : Interval) (a : Axis) → Left P S i → clipAlong b o d a i ≡ Some j → Left P (S × (eq (component d a) zero ≡ true)) j
+  along-left S i j a l e = axis-left P P-largest S i a (component (b .mins) a) (component (b .maxs) a) (component o a) (component d a) j (leaves a) l e
+
+  slabs-left : (i : Interval) → clipSlabs b o d ≡ Some i → Still d ⊎ (P (i .far .time) × Named (i .near) × Named (i .far))
+  slabs-left i e =
+      let p = through (clipAlong b o d X wholeLine) (λ j. andThen (clipAlong b o d Y j) (clipAlong b o d Z)) i e in
+      let q = through (clipAlong b o d Y (p .0)) (clipAlong b o d Z) i (p .2) in
+      let x = along-left (zero ≡ zero) wholeLine (p .0) X (whole refl refl) (p .1) in
+      let y = along-left ((zero ≡ zero) × (eq (d .x) zero ≡ true)) (p .0) (q .0) Y x (q .1) in
+      split (along-left (((zero ≡ zero) × (eq (d .x) zero ≡ true)) × (eq (d .y) zero ≡ true)) (q .0) i Z y (q .2))
+    where
+      on-axes : eq (d .x) zero ≡ true → eq (d .y) zero ≡ true → eq (d .z) zero ≡ true → Still d
+      on-axes x y z X = x
+      on-axes x y z Y = y
+      on-axes x y z Z = z
+
+      split : Left P ((((zero ≡ zero) × (eq (d .x) zero ≡ true)) × (eq (d .y) zero ≡ true)) × (eq (d .z) zero ≡ true)) i → Still d ⊎ (P (i .far .time) × Named (i .near) × Named (i .far))
+      split (whole s w) = inl (on-axes (s .0 .0 .1) (s .0 .1) (s .1))
+      split (cut p n f) = inr (p, n, f)
+
+  line-end : (c : LineClip) → clipLine b o d ≡ Some c → Still d ⊎ P (c .far .time)
+  unfolding clipLine
+  line-end c e =
+      let p = through (clipSlabs b o d) (λ j. joinEnds b o j (nearNormal (j .near) d) (farNormal (j .far) d)) c e in
+      let i = p .0 in
+      elim (slabs-left i (p .1)) [
+        | inl s ↦ inl s
+        | inr q ↦ inr (subst P (joined-end b o i c (nearNormal (i .near) d) (farNormal (i .far) d) (near-some (i .near) d (q .1)) (far-some (i .far) d (q .2)) (p .2)) (q .0))
+      ]
+
+pub clip-end : (P : Float → Type 0) → P largest → (b : Aabb) (r : Ray) → LeavesBox P b (r .origin) (r .dir) → (start end : Float) → clipRay b r ≡ Some (start, end) → Still (r .dir) ⊎ P end
+unfolding clipRay
+clip-end P P-largest b r leaves start end e =
+    let p = through (clipLine b (r .origin) (r .dir)) rayParameters (start, end) e in
+    elim (line-end P P-largest b (r .origin) (r .dir) leaves (p .0) (p .1)) [ inl s ↦ inl s | inr q ↦ inr (subst P (parameters-end (p .0) start end (p .2)) q) ]
