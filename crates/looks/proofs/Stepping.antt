@@ -3,11 +3,14 @@ use mathlib.Core.Path.{_≡_, refl, sym, ap, _∙_, subst, subst⁻¹}
 use mathlib.Core.Logic.{_⊎_, inl, inr}
 use mathlib.Core.Bool.{Bool, true, false, not, cond, _&&_, true≢false}
 use Prim.Native.Nat.{ℕ, suc, _+_, _-_, _*_, _^_, _≤_, _<_}
+use native.Mathlib.Nat.{eq-zero-or-pos, lt-of-mul-lt-mul-right}
 use native.Mathlib.Omega.{arith}
 use lib.Dec.{T, ltb, T-not, not-T}
 use lib.IntN.{ℤ, pos, negsuc, natAbs, _+ℤ_}
 use lib.Signed.{ltZ}
-use lib.Ieee.{Float, unlike, lt, le}
+use lib.Ieee.{Float, unlike, neg, ofBits, below, lt, le, eq}
+use lib.Ieee.Exact.{HasValue}
+use lib.Pow.{pow-pos}
 use lib.Ieee.Bits.{is-true, is-false}
 use Rattle.std.proofs.shelf.Signed.{ints}
 use Rattle.std.proofs.shelf.Tests.{cases-bool, cases-lt, cases-order, cond-both, and-parts, and-cases, lt-ltb, le-ltb, ltb-true, ltb-false}
@@ -17,15 +20,16 @@ use Rattle.scalar.specs.Single.{plus, minus, over, zero, one, two, largest, Num
 use Rattle.scalar.specs.Grid.{OnGrid, IsCell, place, away}
 use Rattle.scalar.specs.Shares.{Close, Terms, NotNegative, isNegative}
 use Rattle.scalar.proofs.Order.{le-trans, le-of-lt, lt-of-le-of-lt, lt-trans, not-lt-of-le, le-of-not-lt, le-left, lt-irrefl}
-use Rattle.scalar.proofs.Values.{value-number, zero-value, one-value, largest-value, lt-is, lt-of-values}
-use Rattle.scalar.proofs.Grid.{offset-exact, zero-on-grid, grid-lt, cell-over-two, low-face-exact, high-face-exact}
-use Rattle.scalar.proofs.Shares.{quotient-close, quotient-lt, close-number, close-zero, close-not-below-zero, close-above-one, close-below-largest, plane-terms}
+use Rattle.scalar.proofs.Values.{value-number, value-as, zero-value, one-value, largest-value, lt-is, lt-of-values}
+use Rattle.scalar.proofs.Grid.{offset-exact, zero-on-grid, grid-lt, grid-eq, plane-exact, cell-over-two, low-face-exact, high-face-exact}
+use Rattle.scalar.proofs.Shares.{quotient-close, quotient-lt, close-number, close-zero, close-not-below-zero, close-above-zero, close-below-one, close-above-one, close-later, close-below-largest, plane-terms, rising-ahead, rising-behind, falling-ahead, falling-behind, rising-enters, rising-leaves, falling-enters, falling-leaves}
 use Rattle.math.specs.declared.Vector.{Vector}
 use Rattle.math.specs.declared.Axis.{Axis as VectorAxis}
 use Rattle.math.specs.declared.Axis.the-variants.{X as Vx, Y as Vy, Z as Vz}
 use Rattle.math.specs.Vectors.{minPosition}
 use Rattle.query.specs.declared.ray.Ray.{Ray}
 use Rattle.query.specs.Cast.{andThen}
+use Rattle.query.specs.Clip.{faceTime}
 use Rattle.voxels.specs.declared.frame.ChunkFrame.{ChunkFrame}
 use Rattle.voxels.specs.declared.«voxel_key».VoxelKey.{VoxelKey}
 use Rattle.voxels.specs.declared.«chunk_cast».Turn.{Turn}
@@ -39,6 +43,8 @@ use Rattle.sight.specs.Power.{powerOfTwo, cube}
 use Rattle.sight.specs.Sight.{sightLine}
 use Rattle.sight.proofs.Powers.{power-is-cell}
 use Rattle.sight.proofs.Positions.{metres, axis-position-exact}
+use Rattle.sight.proofs.LookStart.{look-clip}
+use Rattle.looks.proofs.ClipEnd.{Leaves, still as keeps-height, rising, falling, LeavesBox, Still, clip-end}
 use Rattle.looks.specs.Units.{pointOf, cellOfKey, keyOfCell}
 use Rattle.line.specs.Line.{Point, Cell, Axis, X, Y, Z, coordinate, index, Share, Within, TouchesAt}
 use Rattle.line.proofs.Steps.{rising-not-past, falling-not-past}
@@ -125,6 +131,9 @@ AfterEarly x = (s : Bool) (p q : ℕ) (v : Float) → q ≤ 1023 → p < q → C
 pub record LimitAtTarget (o t : Point) (limit : Float) : Type 0 where
   pub no-later : T (le limit one)
   pub no-earlier : (i : Axis) → (coordinate o i ≡ coordinate t i → ⊥) → AfterEarly limit
+
+zero-below-one : T (lt zero one)
+zero-below-one = lt-of-values zero one false 0 1 1 1 (omega arith) (omega arith) zero-value one-value (omega arith)
 
 one-below-largest : T (lt one largest)
 one-below-largest = lt-of-values one largest false 1 1 (16777215 * 2 ^ 104) 1 (omega arith) (omega arith) one-value largest-value (omega arith)
@@ -386,3 +395,68 @@ module _ (f : ChunkFrame) (e : ℤ) (range : T (exponentFits (Some e))) (size : 
       let few = touched-in-grid from to (in-grid camera) (in-grid target) c (s, a) in
       subst⁻¹ (Choice from to c) (rule-by-times c few limit)
       (choice-by-times from to c s a (in-grid target) (stepTimes (cellBox f (keyOfCell c)) line) (step-times-exact c few s a) limit ends)
+
+-- ---- the limit of a look: one axis of its clip, where lo and hi are the chunk's faces
+largest-after-early : AfterEarly largest
+largest-after-early s p q v m l c = close-below-largest s p q v (omega arith) (omega arith) c
+
+lowest-value : HasValue (neg largest) true (16777215 * 2 ^ 104) 1
+unfolding neg ofBits
+lowest-value = (refl, refl)
+
+value-above-lowest : (s : Bool) (n : ℕ) (v : Float) → n < 2 ^ 160 → HasValue v s n (2 ^ 149) → lt (neg largest) v ≡ true
+value-above-lowest s n v h w = lt-is (neg largest) v true s (16777215 * 2 ^ 104 * 2 ^ 149) n (2 ^ 149) (pow-pos 149) lowest w ∙ by-sign s
+  where
+    lowest : HasValue (neg largest) true (16777215 * 2 ^ 104 * 2 ^ 149) (2 ^ 149)
+    lowest = value-as (neg largest) true (16777215 * 2 ^ 104) 1 (16777215 * 2 ^ 104 * 2 ^ 149) (2 ^ 149) (omega arith) (omega arith) lowest-value
+
+    by-sign : (b : Bool) → below true (16777215 * 2 ^ 104 * 2 ^ 149) b n ≡ true
+    by-sign false = lt-ltb 0 (16777215 * 2 ^ 104 * 2 ^ 149 + n) (omega arith)
+    by-sign true = lt-ltb n (16777215 * 2 ^ 104 * 2 ^ 149) (omega arith)
+
+close-above-lowest : (s : Bool) (p q : ℕ) (v : Float) → 0 < q → p ≤ 1024 → Close s p q v → T (le (neg largest) v)
+close-above-lowest s p q v Q h c =
+    let n = c .units in
+    let d : n < 2 ^ 160 = lt-of-mul-lt-mul-right q (omega (arith, c .most)) in
+    le-of-lt (neg largest) v (subst⁻¹ T (value-above-lowest s n v d (c .value)) tt)
+
+module _ (u : ℕ) (x y lo hi : Float) (key : ℤ) (g h : ℕ) (K : u ≤ 20) (l : natAbs key ≤ 4096) (G : g ≤ 1023) (H : h ≤ 1023)
+    (XG : OnGrid x u (place key g)) (YG : OnGrid y u (place key h)) (L : OnGrid lo u (place key 0)) (U : OnGrid hi u (place key 1024)) where
+  abbrev low-time : Float
+  low-time = faceTime lo x (minus y x)
+
+  abbrev high-time : Float
+  high-time = faceTime hi x (minus y x)
+
+  stands-still : ((g ≡ h) → eq (minus y x) zero ≡ true) × ((g ≡ h → ⊥) → eq (minus y x) zero ≡ false)
+  stands-still =
+      let e = grid-eq u (minus y x) zero (away h g) (pos 0) (offset-exact u x y key g h K l (omega arith) (omega arith) XG YG) (zero-on-grid u) in
+      (λ q. e .0 (omega (arith, ints)), λ n. e .1 (λ q. n (omega (arith, ints))))
+
+  rising-low-above-lowest : g < h → T (le (neg largest) low-time)
+  rising-low-above-lowest m = elim (eq-zero-or-pos g) [
+    | inl z ↦ close-above-lowest false (0 - g) (h - g) low-time (omega arith) (omega arith) (rising-ahead u x y lo key g h 0 K l G H (omega arith) XG YG L m (omega arith) .product)
+    | inr z ↦ close-above-lowest true (g - 0) (h - g) low-time (omega arith) (omega arith) (rising-behind u x y lo key g h 0 K l G H (omega arith) XG YG L m z .product)
+  ]
+
+  axis-leaves : Leaves AfterEarly lo hi x (minus y x)
+  axis-leaves = elim (cases-order g h) [
+    | inl e ↦ keeps-height (stands-still .0 e)
+    | inr (inl m) ↦
+        let in-time = rising-enters u x y lo hi key g h K l G H XG YG L U m in
+        let out-time = rising-leaves u x y lo hi key g h K l G H XG YG L U m in
+        let after = lt-trans zero one high-time zero-below-one out-time in
+        rising (stands-still .1 (λ e. omega arith))
+        (is-false (lt high-time low-time) (not-lt-of-le low-time high-time (le-trans low-time zero high-time in-time (le-of-lt zero high-time after))))
+        (rising-low-above-lowest m)
+        (le-of-lt high-time largest (close-below-largest false (1024 - g) (h - g) high-time (omega arith) (omega arith) (rising-ahead u x y hi key g h 1024 K l G H (omega arith) XG YG U m (omega arith) .product)))
+        (λ s p q v a b c. lt-trans v one high-time (close-below-one s p q v a b c .1) out-time)
+    | inr (inr m) ↦
+        let in-time = falling-enters u x y lo hi key g h K l G H XG YG L U m in
+        let c = falling-leaves u x y lo hi key g h K l G H XG YG L U m in
+        falling (stands-still .1 (λ e. omega arith))
+        (is-true (lt high-time low-time) (lt-of-le-of-lt high-time zero low-time in-time (close-above-zero g (g - h) low-time (omega arith) c)))
+        (close-above-lowest true (1024 - g) (g - h) high-time (omega arith) (omega arith) (falling-behind u x y hi key g h 1024 K l G H (omega arith) XG YG U m (omega arith) .product))
+        (le-of-lt low-time largest (close-below-largest false g (g - h) low-time (omega arith) (omega arith) c))
+        (λ s p q v a b c'. close-later s g (g - h) p q low-time v (omega arith) (omega arith) (omega arith) a b c c')
+  ]
