@@ -13,13 +13,14 @@ use lib.Ieee.Exact.{HasValue}
 use lib.Pow.{pow-pos}
 use lib.Ieee.Bits.{is-true, is-false}
 use Rattle.std.proofs.shelf.Signed.{ints}
-use Rattle.std.proofs.shelf.Tests.{cases-bool, cases-lt, cases-order, cond-both, and-parts, and-cases, lt-ltb, le-ltb, ltb-true, ltb-false}
+use Rattle.std.proofs.shelf.Tests.{cases-lt, cases-order, cond-both, both-ways, and-parts, and-cases, lt-ltb, le-ltb, ltb-true, ltb-false}
 use Rattle.std.specs.declared.option.Option.{Option}
 use Rattle.std.specs.declared.option.Option.the-variants.{None, Some}
-use Rattle.scalar.specs.Single.{plus, minus, over, zero, one, two, largest, Number}
+use Rattle.std.specs.Floats as Floats
+use Rattle.scalar.specs.Single.{plus, minus, times, over, zero, one, two, largest, Number}
 use Rattle.scalar.specs.Grid.{OnGrid, IsCell, place, away}
 use Rattle.scalar.specs.Shares.{Close, Terms, NotNegative, isNegative}
-use Rattle.scalar.proofs.Order.{le-trans, le-of-lt, lt-of-le-of-lt, lt-trans, not-lt-of-le, le-of-not-lt, le-left, lt-irrefl}
+use Rattle.scalar.proofs.Order.{le-trans, le-of-lt, lt-of-le-of-lt, lt-trans, not-lt-of-le, le-of-not-lt, le-left, le-right, lt-irrefl, least-le-right, lt-least}
 use Rattle.scalar.proofs.Values.{value-number, value-as, zero-value, one-value, largest-value, lt-is, lt-of-values}
 use Rattle.scalar.proofs.Grid.{offset-exact, zero-on-grid, grid-lt, grid-eq, plane-exact, cell-over-two, low-face-exact, high-face-exact}
 use Rattle.scalar.proofs.Shares.{quotient-close, quotient-lt, close-number, close-zero, close-not-below-zero, close-above-zero, close-below-one, close-above-one, close-later, close-below-largest, plane-terms, rising-ahead, rising-behind, falling-ahead, falling-behind, rising-enters, rising-leaves, falling-enters, falling-leaves}
@@ -35,7 +36,7 @@ use Rattle.voxels.specs.declared.«voxel_key».VoxelKey.{VoxelKey}
 use Rattle.voxels.specs.declared.«chunk_cast».Turn.{Turn}
 use Rattle.voxels.specs.declared.«chunk_cast».Turn.the-variants.{Hit, Stop, Step}
 use Rattle.voxels.specs.Lawful.{exponentFits}
-use Rattle.voxels.specs.Frame.{centre, cellBox}
+use Rattle.voxels.specs.Frame.{chunkBox, keyFloat, centre, cellBox}
 use Rattle.voxels.specs.Chunk.{fromZero, stepTime, stepTimes, allLater, nextPlace, atX, atY, atZ, nextKey, stepTo, stepFrom}
 use Rattle.voxels.proofs.Bounds.{key-bound, exponent-bound}
 use Rattle.sight.specs.declared.«grid_point».GridPoint.{GridPoint}
@@ -460,3 +461,65 @@ module _ (u : ℕ) (x y lo hi : Float) (key : ℤ) (g h : ℕ) (K : u ≤ 20) (l
         (le-of-lt low-time largest (close-below-largest false g (g - h) low-time (omega arith) (omega arith) c))
         (λ s p q v a b c'. close-later s g (g - h) p q low-time v (omega arith) (omega arith) (omega arith) a b c c')
   ]
+
+-- ---- the same axis of a chunk whose cells are cubes of 2^e metres
+record AxisEnd (e key : ℤ) (size : Float) (g h : ℕ) : Type 0 where
+  leaves : Leaves AfterEarly (times (keyFloat key 0) size) (times (keyFloat key 8) size) (metres e key g) (minus (metres e key h) (metres e key g))
+  moves-along : (g ≡ h → ⊥) → eq (minus (metres e key h) (metres e key g)) zero ≡ false
+
+axis-end : (e key : ℤ) (size : Float) (g h : ℕ) → T (exponentFits (Some e)) → natAbs key ≤ 4096 → size ≡ powerOfTwo e → g ≤ 1023 → h ≤ 1023 → AxisEnd e key size g h
+axis-end e key size g h range l q G H =
+    let u = natAbs (e +ℤ pos 10) in
+    let b = exponent-bound e range in
+    let K = b .1 in
+    let c : IsCell size u = subst⁻¹ (λ (y : Float). IsCell y u) q (power-is-cell e u (b .0)) in
+    let x = metres e key g in
+    let y = metres e key h in
+    let lo = times (keyFloat key 0) size in
+    let hi = times (keyFloat key 8) size in
+    let xe = axis-position-exact e key g range l G in
+    let ye = axis-position-exact e key h range l H in
+    let loe = plane-exact u size key 0 K c l (omega arith) in
+    let hie = plane-exact u size key 8 K c l (omega arith) in
+    record { leaves = axis-leaves u x y lo hi key g h K l G H xe ye loe hie; moves-along = stands-still u x y lo hi key g h K l G H xe ye loe hie .1 }
+
+-- ---- the look
+module _ (f : ChunkFrame) (e : ℤ) (range : T (exponentFits (Some e))) (size : f .«voxel_size» ≡ cube e) (camera target : GridPoint) where
+  end-x : AxisEnd e (f .key .x) (f .«voxel_size» .x) (camera .x) (target .x)
+  end-x = axis-end e (f .key .x) (f .«voxel_size» .x) (camera .x) (target .x) range (key-bound f .0) (ap (λ (v : Vector). v .x) size) (camera .ok .0) (target .ok .0)
+
+  end-y : AxisEnd e (f .key .y) (f .«voxel_size» .y) (camera .y) (target .y)
+  end-y = axis-end e (f .key .y) (f .«voxel_size» .y) (camera .y) (target .y) range (key-bound f .1) (ap (λ (v : Vector). v .y) size) (camera .ok .1 .0) (target .ok .1 .0)
+
+  end-z : AxisEnd e (f .key .z) (f .«voxel_size» .z) (camera .z) (target .z)
+  end-z = axis-end e (f .key .z) (f .«voxel_size» .z) (camera .z) (target .z) range (key-bound f .2) (ap (λ (v : Vector). v .z) size) (camera .ok .1 .1) (target .ok .1 .1)
+
+  leaves-chunk : LeavesBox AfterEarly (chunkBox f) (sightLine e (f .key) camera target .origin) (sightLine e (f .key) camera target .dir)
+  unfolding chunkBox
+  leaves-chunk Vx = end-x .leaves
+  leaves-chunk Vy = end-y .leaves
+  leaves-chunk Vz = end-z .leaves
+
+  moves-or-not : Still (sightLine e (f .key) camera target .dir) → (i : Axis) → (coordinate (pointOf camera) i ≡ coordinate (pointOf target) i → ⊥) → ⊥
+  moves-or-not s X n = both-ways _ (end-x .moves-along n) (s Vx)
+  moves-or-not s Y n = both-ways _ (end-y .moves-along n) (s Vy)
+  moves-or-not s Z n = both-ways _ (end-z .moves-along n) (s Vz)
+
+  pub end-after-early : (i : Axis) → (coordinate (pointOf camera) i ≡ coordinate (pointOf target) i → ⊥) → AfterEarly (look-clip f e range size camera target .end)
+  end-after-early i n =
+      let k = look-clip f e range size camera target in
+      elim (clip-end AfterEarly largest-after-early (chunkBox f) (sightLine e (f .key) camera target) leaves-chunk (k .start) (k .end) (k .clip)) [
+        | inl s ↦ absurd (moves-or-not s i n)
+        | inr p ↦ p
+      ]
+
+  pub limit-at-target : LimitAtTarget (pointOf camera) (pointOf target) (Floats.least (look-clip f e range size camera target .end) one)
+  limit-at-target =
+      let k = look-clip f e range size camera target in
+      record {
+        no-later = least-le-right (k .end) one (le-right zero (k .end) (k .end-least)) (value-number one false 1 1 one-value);
+        no-earlier = λ i n s p q v a b c. lt-least v (k .end) one (end-after-early i n s p q v a b c) (close-below-one s p q v a b c .1);
+      }
+
+  pub float-rule-chooses : Chooses (pointOf camera) (pointOf target) (floatRule f (sightLine e (f .key) camera target) (Floats.least (look-clip f e range size camera target .end) one))
+  float-rule-chooses = float-rule-chooses-within f e range size camera target (Floats.least (look-clip f e range size camera target .end) one) limit-at-target
