@@ -1,8 +1,7 @@
 -- The end of a clip: a line that moves leaves the box by one of its faces, so what holds of each axis' exit holds of the end.
-use mathlib.Core.Path.{_≡_, refl, sym, ap, _∙_, subst, subst⁻¹}
+use mathlib.Core.Path.{_≡_, refl, ap, subst, subst⁻¹}
 use mathlib.Core.Logic.{_⊎_, inl, inr}
 use mathlib.Core.Bool.{Bool, true, false, cond, _||_}
-use native.Mathlib.Omega.{arith}
 use lib.Dec.{T}
 use lib.Ieee.{Float, neg, lt, le, eq}
 use lib.Ieee.Bits.{is-true}
@@ -19,7 +18,7 @@ use Rattle.math.specs.Vectors.{component, along, vneg, normalized}
 use Rattle.query.specs.declared.aabb.Aabb.{Aabb}
 use Rattle.query.specs.declared.ray.Ray.{Ray}
 use Rattle.query.specs.declared.«clip_aabb_line».Side.{Side}
-use Rattle.query.specs.declared.«clip_aabb_line».Side.the-variants.{Inside, Low, High}
+use Rattle.query.specs.declared.«clip_aabb_line».Side.the-variants.{Low, High}
 use Rattle.query.specs.declared.«clip_aabb_line».Bound.{Bound}
 use Rattle.query.specs.declared.«clip_aabb_line».Interval.{Interval}
 use Rattle.query.specs.declared.«clip_aabb_line».LineClip.{LineClip}

@@ -1,2 +1,4 @@
 pub mod ClipEnd
+pub mod LookLimit
+pub mod StepTimes
 pub mod Stepping
