@@ -39,8 +39,6 @@ use Rattle.sight.proofs.LookStart.{look-clip}
 use Rattle.looks.proofs.ClipEnd.{Leaves, still as keeps-height, rising, falling, LeavesBox, Still, clip-end}
 use Rattle.looks.specs.Units.{pointOf}
 
--- ---- against the limit
-
 -- all that is before one is before x
 abbrev pub AfterEarly : Float → Type 0
 AfterEarly x = (s : Bool) (p q : ℕ) (v : Float) → q ≤ 1023 → p < q → Close s p q v → T (lt v x)
@@ -53,7 +51,6 @@ pub record LimitAtTarget (o t : Point) (limit : Float) : Type 0 where
 zero-below-one : T (lt zero one)
 zero-below-one = lt-of-values zero one false 0 1 1 1 (omega arith) (omega arith) zero-value one-value (omega arith)
 
--- ---- the limit of a look: one axis of its clip, where lo and hi are the chunk's faces
 largest-after-early : AfterEarly largest
 largest-after-early s p q v m l c = close-below-largest s p q v (omega arith) (omega arith) c
 
@@ -77,6 +74,7 @@ close-above-lowest s p q v Q h c =
     let d : n < 2 ^ 160 = lt-of-mul-lt-mul-right q (omega (arith, c .most)) in
     le-of-lt (neg largest) v (subst⁻¹ T (value-above-lowest s n v d (c .value)) tt)
 
+-- ---- one axis: x is the camera, at the grid number g, y the target, at h, and lo and hi are the chunk's faces
 module _ (u : ℕ) (x y lo hi : Float) (key : ℤ) (g h : ℕ) (K : u ≤ 20) (l : natAbs key ≤ 4096) (G : g ≤ 1023) (H : h ≤ 1023)
     (XG : OnGrid x u (place key g)) (YG : OnGrid y u (place key h)) (L : OnGrid lo u (place key 0)) (U : OnGrid hi u (place key 1024)) where
   abbrev low-time : Float

@@ -25,6 +25,7 @@ use Rattle.math.specs.Vectors.{minPosition}
 use Rattle.query.specs.declared.ray.Ray.{Ray}
 use Rattle.query.specs.Cast.{andThen}
 use Rattle.voxels.specs.declared.frame.ChunkFrame.{ChunkFrame}
+use Rattle.voxels.specs.declared.«voxel_key».VoxelKey.{VoxelKey}
 use Rattle.voxels.specs.declared.«chunk_cast».Turn.{Turn}
 use Rattle.voxels.specs.declared.«chunk_cast».Turn.the-variants.{Hit, Stop, Step}
 use Rattle.voxels.specs.Lawful.{exponentFits}
@@ -91,6 +92,7 @@ module _ (o t : Point) (c : Cell) (v : Vector) (at : (i : Axis) → StepTimeOf (
       (λ k. on-three (NoLaterOn Z) (no-later-of-lt Z X k) (trans Z X Y (no-later-of-lt Z X k) (no-later-of-not-lt Y X h)) (omega arith))
       (λ k. on-three (NoLaterOn X) (omega arith) (no-later-of-not-lt Y X h) (no-later-of-not-lt Z X k)))
 
+-- ---- times against one and against the limit
 one-below-largest : T (lt one largest)
 one-below-largest = lt-of-values one largest false 1 1 (16777215 * 2 ^ 104) 1 (omega arith) (omega arith) one-value largest-value (omega arith)
 
@@ -205,6 +207,22 @@ steppedTo (Step k) = Some (cellOfKey k)
 
 unfoldable pub floatRule : ChunkFrame → Ray → Float → Cell → Option Cell
 floatRule f r limit c = steppedTo (stepFrom (keyOfCell c) (r .dir) (stepTimes (cellBox f (keyOfCell c)) r) limit)
+
+-- a step is never a hit, so the rule tells all of it
+abbrev pub turnTo : Option Cell → Turn
+turnTo None = Stop
+turnTo (Some d) = Step (keyOfCell d)
+
+turn-back : (b : Bool) (k : Option VoxelKey) → cond b Stop (stepTo k) ≡ turnTo (steppedTo (cond b Stop (stepTo k)))
+turn-back true k = refl
+turn-back false None = refl
+turn-back false (Some k) = refl
+
+pub step-by-rule : (f : ChunkFrame) (r : Ray) (limit : Float) (c : Cell) → stepFrom (keyOfCell c) (r .dir) (stepTimes (cellBox f (keyOfCell c)) r) limit ≡ turnTo (floatRule f r limit c)
+unfolding floatRule stepFrom
+step-by-rule f r limit c =
+    let v = stepTimes (cellBox f (keyOfCell c)) r in
+    turn-back (allLater v limit) (nextKey (keyOfCell c) (r .dir) (minPosition v))
 
 stepped-unless : (b : Bool) (y : Turn) → steppedTo (cond b Stop y) ≡ cond b None (steppedTo y)
 stepped-unless true y = refl
