@@ -18,10 +18,10 @@ use Rattle.scalar.specs.Single.{minus, times, over, zero, one, largest, Number}
 use Rattle.scalar.specs.Grid.{OnGrid, place, away}
 use Rattle.scalar.specs.Shares.{Close, NotNegative, Time}
 use Rattle.scalar.proofs.Order.{le-trans, le-of-lt, lt-of-le-of-lt, lt-of-lt-of-le, lt-trans, not-lt-of-le}
-use Rattle.scalar.proofs.Values.{value-as, lt-is, lt-of-values, zero-value}
+use Rattle.scalar.proofs.Values.{value-as, lt-is, le-is, lt-of-values, zero-value}
 use Rattle.scalar.proofs.Grid.{offset-exact, zero-on-grid, grid-lt, grid-eq}
-use Rattle.scalar.proofs.Shares.{rising-ahead, rising-behind, falling-ahead, falling-behind, close-lt, close-zero, close-above-zero, close-below-zero, close-not-above-zero, close-below-largest}
-use Rattle.query.specs.Clip.{faceTime}
+use Rattle.scalar.proofs.Shares.{rising-ahead, rising-behind, falling-ahead, falling-behind, close-lt, close-zero, close-above-zero, close-below-zero, close-not-above-zero, close-not-below-zero, close-below-largest}
+use Rattle.query.specs.Clip.{faceTime, beyond}
 use Rattle.line.specs.Faces.{span, nearDistance, farDistance}
 use Rattle.line.proofs.Faces.{near-rising, near-falling, far-rising, far-falling}
 
@@ -73,3 +73,133 @@ module _ (k : ℕ) (x y f : Float) (key : ℤ) (g h i : ℕ) (K : k ≤ 20) (l :
         behind (omega arith) (close-below-zero (i - g) (g - h) at-face (omega arith) c) (close-above-lowest true (i - g) (g - h) at-face (omega arith) (omega arith) c)
     | inr (inr n) ↦ ahead false (λ e. absurd (true≢false (sym e))) (falling-ahead k x y f key g h i K l G H I X Y F m n .product)
   ]
+
+-- ---- one axis of a cell's box, with its low face at i and its high one at j: the line is at the near face first, unless it starts past the far one
+zero-le-negative-zero : (v : Float) → HasValue v true 0 1 → T (le zero v)
+zero-le-negative-zero v u = subst⁻¹ T (le-is zero v false true 0 0 1 (omega arith) zero-value u) tt
+
+module _ (k : ℕ) (x y lo hi : Float) (key : ℤ) (g h i j : ℕ) (K : k ≤ 20) (l : natAbs key ≤ 4096) (G : g ≤ 1023) (H : h ≤ 1023) (I : i < j) (J : j ≤ 1024)
+    (X : OnGrid x k (place key g)) (Y : OnGrid y k (place key h)) (L : OnGrid lo k (place key i)) (U : OnGrid hi k (place key j)) where
+  abbrev at-low : Float
+  at-low = faceTime lo x (minus y x)
+
+  abbrev at-high : Float
+  at-high = faceTime hi x (minus y x)
+
+  rising-ordered : g < h → g ≤ j → T (lt at-low at-high)
+  rising-ordered m n =
+      let b = rising-ahead k x y hi key g h j K l G H J X Y U m n .product in
+      elim (cases-lt i g) [
+        | inl c ↦
+            let a = rising-behind k x y lo key g h i K l G H (omega arith) X Y L m c .product in
+            lt-of-lt-of-le at-low zero at-high (close-below-zero (g - i) (h - g) at-low (omega arith) a) (close-not-below-zero (j - g) (h - g) at-high b)
+        | inr c ↦
+            let a = rising-ahead k x y lo key g h i K l G H (omega arith) X Y L m c .product in
+            let less : i - g < j - g = omega arith in
+            let q : 0 < h - g = omega arith in
+            close-lt false false (i - g) (h - g) (j - g) (h - g) at-low at-high q q (omega arith) (omega arith) (λ e. absurd (true≢false (sym e))) a b (mul-lt-mul-of-pos-right less q)
+      ]
+
+  falling-ordered : h < g → i ≤ g → T (lt at-high at-low)
+  falling-ordered m n = elim (cases-order i g) [
+    | inl e ↦
+        let a = falling-behind k x y lo key g h i K l G H (omega arith) X Y L m (omega arith) .product in
+        let b = falling-behind k x y hi key g h j K l G H J X Y U m (omega arith) .product in
+        let none : i - g ≡ 0 = omega arith in
+        lt-of-lt-of-le at-high zero at-low (close-below-zero (j - g) (g - h) at-high (omega arith) b)
+        (zero-le-negative-zero at-low (close-zero true (g - h) at-low (omega arith) (subst (λ (p : ℕ). Close true p (g - h) at-low) none a)))
+    | inr (inl c) ↦
+        let a = falling-ahead k x y lo key g h i K l G H (omega arith) X Y L m c .product in
+        elim (cases-lt j g) [
+          | inl u ↦
+              let b = falling-ahead k x y hi key g h j K l G H J X Y U m u .product in
+              let less : g - j < g - i = omega arith in
+              let q : 0 < g - h = omega arith in
+              close-lt false false (g - j) (g - h) (g - i) (g - h) at-high at-low q q (omega arith) (omega arith) (λ e. absurd (true≢false (sym e))) b a (mul-lt-mul-of-pos-right less q)
+          | inr u ↦
+              let b = falling-behind k x y hi key g h j K l G H J X Y U m u .product in
+              lt-of-le-of-lt at-high zero at-low (close-not-above-zero (j - g) (g - h) at-high b) (close-above-zero (g - i) (g - h) at-low (omega arith) a)
+        ]
+    | inr (inr c) ↦ absurd (omega arith)
+  ]
+
+-- the line does not start past the far face of the cell n
+pub record NotPast (o t n : ℕ) : Type 0 where
+  pub below-high : o < t → o ≤ 128 * n + 128
+  pub above-low : t < o → 128 * n ≤ o
+
+-- the times at the two faces, on an axis where the line moves
+pub record Moving (o t n : ℕ) (near far : Float) : Type 0 where
+  pub near-time : FaceTime (nearDistance o t n) (span o t) near
+  pub far-time : FaceTime (farDistance o t n) (span o t) far
+  pub ordered : NotPast o t n → T (lt near far)
+
+pub data Slab (o t n : ℕ) (low high x d : Float) : Type 0 where
+  still : o ≡ t → eq d zero ≡ true → Slab o t n low high x d
+  rising : o < t → eq d zero ≡ false → Moving o t n (faceTime low x d) (faceTime high x d) → Slab o t n low high x d
+  falling : t < o → eq d zero ≡ false → Moving o t n (faceTime high x d) (faceTime low x d) → Slab o t n low high x d
+
+-- the cell n on one axis, for a camera at o and a target at t
+pub record AxisBox (o t n : ℕ) (low high x d : Float) : Type 0 where
+  pub slab : Slab o t n low high x d
+  pub inside : 128 * n ≤ o → o ≤ 128 * n + 128 → beyond x low high ≡ false
+  pub inside-back : beyond x low high ≡ false → (128 * n ≤ o) × (o ≤ 128 * n + 128)
+
+module _ (k : ℕ) (x y lo hi : Float) (key : ℤ) (g h n : ℕ) (K : k ≤ 20) (l : natAbs key ≤ 4096) (G : g ≤ 1023) (H : h ≤ 1023) (N : n ≤ 7)
+    (X : OnGrid x k (place key g)) (Y : OnGrid y k (place key h)) (L : OnGrid lo k (place key (128 * n))) (U : OnGrid hi k (place key (128 * n + 128))) where
+  abbrev low-time : Float
+  low-time = faceTime lo x (minus y x)
+
+  abbrev high-time : Float
+  high-time = faceTime hi x (minus y x)
+
+  moving-up : g < h → Moving g h n low-time high-time
+  moving-up m =
+      let s : h - g ≡ span g h = omega arith in
+      record {
+        near-time = subst (λ (q : ℕ). FaceTime (nearDistance g h n) q low-time) s
+            (subst⁻¹ (λ (p : ℕ). FaceTime p (h - g) low-time) (near-rising g h n m) (rising-face k x y lo key g h (128 * n) K l G H (omega arith) X Y L m));
+        far-time = subst (λ (q : ℕ). FaceTime (farDistance g h n) q high-time) s
+            (subst⁻¹ (λ (p : ℕ). FaceTime p (h - g) high-time) (far-rising g h n m) (rising-face k x y hi key g h (128 * n + 128) K l G H (omega arith) X Y U m));
+        ordered = λ w. rising-ordered k x y lo hi key g h (128 * n) (128 * n + 128) K l G H (omega arith) (omega arith) X Y L U m (w .below-high m);
+      }
+
+  moving-down : h < g → Moving g h n high-time low-time
+  moving-down m =
+      let s : g - h ≡ span g h = omega arith in
+      record {
+        near-time = subst (λ (q : ℕ). FaceTime (nearDistance g h n) q high-time) s
+            (subst⁻¹ (λ (p : ℕ). FaceTime p (g - h) high-time) (near-falling g h n m) (falling-face k x y hi key g h (128 * n + 128) K l G H (omega arith) X Y U m));
+        far-time = subst (λ (q : ℕ). FaceTime (farDistance g h n) q low-time) s
+            (subst⁻¹ (λ (p : ℕ). FaceTime p (g - h) low-time) (far-falling g h n m) (falling-face k x y lo key g h (128 * n) K l G H (omega arith) X Y L m));
+        ordered = λ w. falling-ordered k x y lo hi key g h (128 * n) (128 * n + 128) K l G H (omega arith) (omega arith) X Y L U m (w .above-low m);
+      }
+
+  axis-slab : Slab g h n lo hi x (minus y x)
+  axis-slab =
+      let still-or-not = grid-eq k (minus y x) zero (away h g) (pos 0) (offset-exact k x y key g h K l (omega arith) (omega arith) X Y) (zero-on-grid k) in
+      elim (cases-order g h) [
+        | inl e ↦ still e (still-or-not .0 (omega (arith, ints)))
+        | inr (inl m) ↦ rising m (still-or-not .1 (λ q. omega (arith, ints))) (moving-up m)
+        | inr (inr m) ↦ falling m (still-or-not .1 (λ q. omega (arith, ints))) (moving-down m)
+      ]
+
+  beyond-is : beyond x lo hi ≡ ltZ (place key g) (place key (128 * n)) || ltZ (place key (128 * n + 128)) (place key g)
+  beyond-is =
+      ap (λ (b : Bool). b || lt hi x) (grid-lt k x lo (place key g) (place key (128 * n)) X L)
+      ∙ ap (λ (b : Bool). ltZ (place key g) (place key (128 * n)) || b) (grid-lt k hi x (place key (128 * n + 128)) (place key g) U X)
+
+  axis-box : AxisBox g h n lo hi x (minus y x)
+  axis-box = record {
+    slab = axis-slab;
+    inside = λ a b.
+        let s : ltZ (place key g) (place key (128 * n)) ≡ false = grind (arith, ints) in
+        let t : ltZ (place key (128 * n + 128)) (place key g) ≡ false = grind (arith, ints) in
+        beyond-is ∙ rw (s, t);
+    inside-back = λ e.
+        let s : ltZ (place key g) (place key (128 * n)) || ltZ (place key (128 * n + 128)) (place key g) ≡ false = sym beyond-is ∙ e in
+        (between key g n s);
+  }
+    where
+      between : (key : ℤ) (g n : ℕ) → ltZ (place key g) (place key (128 * n)) || ltZ (place key (128 * n + 128)) (place key g) ≡ false → (128 * n ≤ g) × (g ≤ 128 * n + 128)
+      between key g n s = (grind (arith, ints), grind (arith, ints))
