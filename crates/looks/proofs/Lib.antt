@@ -1,1 +1,2 @@
+pub mod Slabs
 pub mod Boxes

@@ -1,0 +1,142 @@
+-- The clip of a line by a box whose near faces it passes before each far face: it exists, and its ends are among the faces' times.
+use mathlib.Core.Path.{_≡_, refl, sym, ap, _∙_, subst, subst⁻¹}
+use mathlib.Core.Logic.{_⊎_, inl, inr}
+use mathlib.Core.Bool.{Bool, true, false, not, cond, _||_}
+use native.Mathlib.Omega.{arith}
+use lib.Dec.{T}
+use lib.Ieee.{Float, neg, lt, le, eq}
+use lib.Ieee.Bits.{is-true, is-false}
+use Rattle.scalar.specs.Single.{zero, largest}
+use Rattle.scalar.proofs.Order.{le-of-lt, not-lt-of-le}
+use Rattle.math.specs.declared.Vector.{Vector}
+use Rattle.math.specs.declared.Axis.{Axis}
+use Rattle.math.specs.declared.Axis.the-variants.{X, Y, Z}
+use Rattle.math.specs.Vectors.{component, vneg, normalized}
+use Rattle.std.specs.declared.option.Option.{Option}
+use Rattle.std.specs.declared.option.Option.the-variants.{None, Some}
+use Rattle.query.specs.declared.aabb.Aabb.{Aabb}
+use Rattle.query.specs.declared.«clip_aabb_line».Side.{Side}
+use Rattle.query.specs.declared.«clip_aabb_line».Side.the-variants.{Inside, Low, High}
+use Rattle.query.specs.declared.«clip_aabb_line».Bound.{Bound}
+use Rattle.query.specs.declared.«clip_aabb_line».Interval.{Interval}
+use Rattle.query.specs.declared.«clip_aabb_line».LineClip.{LineClip}
+use Rattle.query.specs.Cast.{andThen}
+use Rattle.query.specs.Clip.{faceTime, orEdge, laterEntry, earlierExit, unlessEmpty, cutBySlab, clipAxis, wholeLine, clipAlong, clipSlabs, faceNormal, nearNormal, farNormal, beyond, contains, standsInside, insideOnly, joinEnds, clipLine}
+
+-- ---- one bound
+pub entry-kept : (P : Float → Type 0) (b : Bound) (t : Float) (s : Side) → P (b .time) → P t → P (laterEntry b t s .time)
+unfolding laterEntry orEdge
+entry-kept P b t s h k = go (lt (b .time) t) (eq t (b .time))
+  where
+    go : (u v : Bool) → P (cond u (record { time = t; side = s; edge = false }) (cond v (record { time = b .time; side = b .side; edge = true }) b) .time)
+    go true v = k
+    go false true = h
+    go false false = h
+
+pub exit-kept : (P : Float → Type 0) (b : Bound) (t : Float) (s : Side) → P (b .time) → P t → P (earlierExit b t s .time)
+unfolding earlierExit orEdge
+exit-kept P b t s h k = go (lt t (b .time)) (eq t (b .time))
+  where
+    go : (u v : Bool) → P (cond u (record { time = t; side = s; edge = false }) (cond v (record { time = b .time; side = b .side; edge = true }) b) .time)
+    go true v = k
+    go false true = h
+    go false false = h
+
+-- is it a face?
+abbrev isFace : Side → Bool
+isFace Inside = false
+isFace (Low axis) = true
+isFace (High axis) = true
+
+entry-face : (b : Bound) (t : Float) (s : Side) → isFace s ≡ true → (lt (b .time) t ≡ true) ⊎ (isFace (b .side) ≡ true) → isFace (laterEntry b t s .side) ≡ true
+unfolding laterEntry orEdge
+entry-face b t s f (inl h) = ap (λ (u : Bool). isFace (cond u (record { time = t; side = s; edge = false }) (cond (eq t (b .time)) (record { time = b .time; side = b .side; edge = true }) b) .side)) h ∙ f
+entry-face b t s f (inr h) = go (lt (b .time) t) (eq t (b .time))
+  where
+    go : (u v : Bool) → isFace (cond u (record { time = t; side = s; edge = false }) (cond v (record { time = b .time; side = b .side; edge = true }) b) .side) ≡ true
+    go true v = f
+    go false true = h
+    go false false = h
+
+exit-face : (b : Bound) (t : Float) (s : Side) → isFace s ≡ true → (lt t (b .time) ≡ true) ⊎ (isFace (b .side) ≡ true) → isFace (earlierExit b t s .side) ≡ true
+unfolding earlierExit orEdge
+exit-face b t s f (inl h) = ap (λ (u : Bool). isFace (cond u (record { time = t; side = s; edge = false }) (cond (eq t (b .time)) (record { time = b .time; side = b .side; edge = true }) b) .side)) h ∙ f
+exit-face b t s f (inr h) = go (lt t (b .time)) (eq t (b .time))
+  where
+    go : (u v : Bool) → isFace (cond u (record { time = t; side = s; edge = false }) (cond v (record { time = b .time; side = b .side; edge = true }) b) .side) ≡ true
+    go true v = f
+    go false true = h
+    go false false = h
+
+-- ---- one axis
+
+-- what holds of the times at a near and a far face
+pub record Ends (Before After : Float → Type 0) (near far : Float) : Type 0 where
+  pub enters : Before near
+  pub leaves : After far
+  pub near-bounded : T (lt (neg largest) near)
+  pub far-bounded : T (lt far largest)
+
+pub data Cut (Before After : Float → Type 0) (low high o d : Float) : Type 0 where
+  level : eq d zero ≡ true → beyond o low high ≡ false → Cut Before After low high o d
+  up : eq d zero ≡ false → Ends Before After (faceTime low o d) (faceTime high o d) → Cut Before After low high o d
+  down : eq d zero ≡ false → Ends Before After (faceTime high o d) (faceTime low o d) → Cut Before After low high o d
+
+-- the line is level on the axes seen so far, or each end is at a face
+data Sides (D : Type 0) (i : Interval) : Type 0 where
+  standing : D → i ≡ wholeLine → Sides D i
+  passing : isFace (i .near .side) ≡ true → isFace (i .far .side) ≡ true → Sides D i
+
+-- each entry comes before each exit, and no exit before zero
+module _ (Before After : Float → Type 0) (ordered : (n f : Float) → Before n → After f → T (lt n f)) (positive : (f : Float) → After f → T (le zero f)) where
+  record Kept (i : Interval) : Type 0 where
+    enters : Before (i .near .time)
+    leaves : After (i .far .time)
+
+  not-empty : (i : Interval) → Kept i → unlessEmpty i ≡ Some i
+  unfolding unlessEmpty
+  not-empty i z =
+      let n = i .near .time in
+      let f = i .far .time in
+      let a : T (not (lt f zero)) = not-lt-of-le zero f (positive f (z .leaves)) in
+      let b : T (not (lt f n)) = not-lt-of-le n f (le-of-lt n f (ordered n f (z .enters) (z .leaves))) in
+      grind arith
+
+  narrowed : (i : Interval) (n f : Float) (s r : Side) → Kept i → Ends Before After n f → Kept (record { near = laterEntry (i .near) n s; far = earlierExit (i .far) f r })
+  narrowed i n f s r z e = record { enters = entry-kept Before (i .near) n s (z .enters) (e .enters); leaves = exit-kept After (i .far) f r (z .leaves) (e .leaves) }
+
+  narrowed-sides : (D E : Type 0) (i : Interval) (n f : Float) (s r : Side) → isFace s ≡ true → isFace r ≡ true → Sides D i → Ends Before After n f
+      → Sides E (record { near = laterEntry (i .near) n s; far = earlierExit (i .far) f r })
+  narrowed-sides D E i n f s r hs hr (standing x w) e =
+      passing (entry-face (i .near) n s hs (inl (ap (λ (j : Interval). lt (j .near .time) n) w ∙ is-true (lt (neg largest) n) (e .near-bounded))))
+      (exit-face (i .far) f r hr (inl (ap (λ (j : Interval). lt f (j .far .time)) w ∙ is-true (lt f largest) (e .far-bounded))))
+  narrowed-sides D E i n f s r hs hr (passing u v) e = passing (entry-face (i .near) n s hs (inr u)) (exit-face (i .far) f r hr (inr v))
+
+  record Next (E : Type 0) (o : Option Interval) : Type 0 where
+    interval : Interval
+    is : o ≡ Some interval
+    kept : Kept interval
+    sides : Sides E interval
+
+  still-sides : (D E : Type 0) (i : Interval) → E → Sides D i → Sides (D × E) i
+  still-sides D E i x (standing d w) = standing (d, x) w
+  still-sides D E i x (passing u v) = passing u v
+
+  axis-next : (D : Type 0) (i : Interval) (a : Axis) (low high o d : Float) → Kept i → Sides D i → Cut Before After low high o d
+      → Next (D × ((eq d zero ≡ true) × (beyond o low high ≡ false))) (clipAxis i a low high o d)
+  unfolding clipAxis cutBySlab
+  axis-next D i a low high o d z s (level e l) = record { interval = i; is = rw (e, l); kept = z; sides = still-sides D ((eq d zero ≡ true) × (beyond o low high ≡ false)) i (e, l) s }
+  axis-next D i a low high o d z s (up e n) =
+      let t = faceTime low o d in
+      let u = faceTime high o d in
+      let j : Interval = record { near = laterEntry (i .near) t (Low a); far = earlierExit (i .far) u (High a) } in
+      let w : Kept j = narrowed i t u (Low a) (High a) z n in
+      let q : lt u t ≡ false = is-false (lt u t) (not-lt-of-le t u (le-of-lt t u (ordered t u (n .enters) (n .leaves)))) in
+      record { interval = j; is = rw (e, q) (not-empty j w); kept = w; sides = narrowed-sides D (D × ((eq d zero ≡ true) × (beyond o low high ≡ false))) i t u (Low a) (High a) refl refl s n }
+  axis-next D i a low high o d z s (down e n) =
+      let t = faceTime low o d in
+      let u = faceTime high o d in
+      let j : Interval = record { near = laterEntry (i .near) u (High a); far = earlierExit (i .far) t (Low a) } in
+      let w : Kept j = narrowed i u t (High a) (Low a) z n in
+      let q : lt u t ≡ true = is-true (lt u t) (ordered u t (n .enters) (n .leaves)) in
+      record { interval = j; is = rw (e, q) (not-empty j w); kept = w; sides = narrowed-sides D (D × ((eq d zero ≡ true) × (beyond o low high ≡ false))) i u t (High a) (Low a) refl refl s n }
