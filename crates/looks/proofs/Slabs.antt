@@ -1,17 +1,17 @@
 -- The clip of a line by a box whose near faces it passes before each far face: it exists, and its ends are among the faces' times.
 use mathlib.Core.Path.{_≡_, refl, sym, ap, _∙_, subst, subst⁻¹}
 use mathlib.Core.Logic.{_⊎_, inl, inr}
-use mathlib.Core.Bool.{Bool, true, false, not, cond, _||_}
+use mathlib.Core.Bool.{Bool, true, false, not, cond, _||_, true≢false}
 use native.Mathlib.Omega.{arith}
 use lib.Dec.{T}
 use lib.Ieee.{Float, neg, lt, le, eq}
 use lib.Ieee.Bits.{is-true, is-false}
-use Rattle.scalar.specs.Single.{zero, largest}
+use Rattle.scalar.specs.Single.{zero, one, largest}
 use Rattle.scalar.proofs.Order.{le-of-lt, not-lt-of-le}
 use Rattle.math.specs.declared.Vector.{Vector}
 use Rattle.math.specs.declared.Axis.{Axis}
 use Rattle.math.specs.declared.Axis.the-variants.{X, Y, Z}
-use Rattle.math.specs.Vectors.{component, vneg, normalized}
+use Rattle.math.specs.Vectors.{component, along, vneg, normalized}
 use Rattle.std.specs.declared.option.Option.{Option}
 use Rattle.std.specs.declared.option.Option.the-variants.{None, Some}
 use Rattle.query.specs.declared.aabb.Aabb.{Aabb}
@@ -87,6 +87,13 @@ data Sides (D : Type 0) (i : Interval) : Type 0 where
   standing : D → i ≡ wholeLine → Sides D i
   passing : isFace (i .near .side) ≡ true → isFace (i .far .side) ≡ true → Sides D i
 
+-- an end at a face has a normal
+some-normal : (edge : Bool) (s : Side) (v : Vector) (low high : Float) → isFace s ≡ true → (n : Vector) × (cond edge (Some v) (faceNormal s low high) ≡ Some n)
+some-normal true s v low high h = (v, refl)
+some-normal false Inside v low high h = absurd (true≢false (sym h))
+some-normal false (Low axis) v low high h = (along axis low, refl)
+some-normal false (High axis) v low high h = (along axis high, refl)
+
 -- each entry comes before each exit, and no exit before zero
 module _ (Before After : Float → Type 0) (ordered : (n f : Float) → Before n → After f → T (lt n f)) (positive : (f : Float) → After f → T (le zero f)) where
   record Kept (i : Interval) : Type 0 where
@@ -140,3 +147,64 @@ module _ (Before After : Float → Type 0) (ordered : (n f : Float) → Before n
       let w : Kept j = narrowed i u t (High a) (Low a) z n in
       let q : lt u t ≡ true = is-true (lt u t) (ordered u t (n .enters) (n .leaves)) in
       record { interval = j; is = rw (e, q) (not-empty j w); kept = w; sides = narrowed-sides D (D × ((eq d zero ≡ true) × (beyond o low high ≡ false))) i u t (High a) (Low a) refl refl s n }
+
+  -- ---- three axes
+  abbrev Level : Aabb → Vector → Vector → Axis → Type 0
+  Level b o d a = (eq (component d a) zero ≡ true) × (beyond (component o a) (component (b .mins) a) (component (b .maxs) a) ≡ false)
+
+  abbrev AllLevel : Aabb → Vector → Vector → Type 0
+  AllLevel b o d = ((T true × Level b o d X) × Level b o d Y) × Level b o d Z
+
+  abbrev Cuts : Aabb → Vector → Vector → Type 0
+  Cuts b o d = (a : Axis) → Cut Before After (component (b .mins) a) (component (b .maxs) a) (component o a) (component d a)
+
+  slabs-next : (b : Aabb) (o d : Vector) → Before (neg largest) → After largest → Cuts b o d → Next (AllLevel b o d) (clipSlabs b o d)
+  slabs-next b o d n f w =
+      let p = axis-next (T true) wholeLine X (b .mins .x) (b .maxs .x) (o .x) (d .x) (record { enters = n; leaves = f }) (standing tt refl) (w X) in
+      let q = axis-next (T true × Level b o d X) (p .interval) Y (b .mins .y) (b .maxs .y) (o .y) (d .y) (p .kept) (p .sides) (w Y) in
+      let r = axis-next ((T true × Level b o d X) × Level b o d Y) (q .interval) Z (b .mins .z) (b .maxs .z) (o .z) (d .z) (q .kept) (q .sides) (w Z) in
+      record {
+        interval = r .interval;
+        is = ap (λ (x : Option Interval). andThen x (λ i. andThen (clipAlong b o d Y i) (clipAlong b o d Z))) (p .is)
+            ∙ ap (λ (x : Option Interval). andThen x (clipAlong b o d Z)) (q .is)
+            ∙ r .is;
+        kept = r .kept;
+        sides = r .sides;
+      }
+
+  -- ---- the line's clip: at once, where the line stands still, else from a near face to a far one
+  pub data Clipped (b : Aabb) (o d : Vector) (c : LineClip) : Type 0 where
+    stands : ((a : Axis) → eq (component d a) zero ≡ true) → c ≡ standsInside → Clipped b o d c
+    passes : Before (c .near .time) → After (c .far .time) → Clipped b o d c
+
+  all-contained : (b : Aabb) (o d : Vector) → AllLevel b o d → contains b o ≡ true
+  unfolding contains
+  all-contained b o d l = rw (l .0 .0 .1 .1, l .0 .1 .1, l .1 .1)
+
+  each-still : (b : Aabb) (o d : Vector) → AllLevel b o d → (a : Axis) → eq (component d a) zero ≡ true
+  each-still b o d l X = l .0 .0 .1 .0
+  each-still b o d l Y = l .0 .1 .0
+  each-still b o d l Z = l .1 .0
+
+  joined : (b : Aabb) (o d : Vector) (i : Interval) → Kept i → Sides (AllLevel b o d) i
+      → (c : LineClip) × (joinEnds b o i (nearNormal (i .near) d) (farNormal (i .far) d) ≡ Some c) × Clipped b o d c
+  unfolding nearNormal farNormal insideOnly
+  joined b o d i z (standing l w) = (
+    standsInside,
+    ap (λ (j : Interval). joinEnds b o j (nearNormal (j .near) d) (farNormal (j .far) d)) w ∙ rw (all-contained b o d l),
+    stands (each-still b o d l) refl,
+  )
+  joined b o d i z (passing u v) =
+      let n = some-normal (i .near .edge) (i .near .side) (vneg (normalized d)) (neg one) one u in
+      let f = some-normal (i .far .edge) (i .far .side) (vneg (normalized d)) one (neg one) v in (
+        _,
+        ap (λ (m : Option Vector). joinEnds b o i m (farNormal (i .far) d)) (n .1) ∙ ap (λ (m : Option Vector). joinEnds b o i (Some (n .0)) m) (f .1),
+        passes (z .enters) (z .leaves),
+      )
+
+  pub line-clipped : (b : Aabb) (o d : Vector) → Before (neg largest) → After largest → Cuts b o d → (c : LineClip) × (clipLine b o d ≡ Some c) × Clipped b o d c
+  unfolding clipLine
+  line-clipped b o d n f w =
+      let p = slabs-next b o d n f w in
+      let q = joined b o d (p .interval) (p .kept) (p .sides) in
+      (q .0, ap (λ (x : Option Interval). andThen x (λ i. joinEnds b o i (nearNormal (i .near) d) (farNormal (i .far) d))) (p .is) ∙ q .1, q .2)
