@@ -17,10 +17,10 @@ use Rattle.std.proofs.shelf.Tests.{cases-lt, cases-order}
 use Rattle.scalar.specs.Single.{plus, minus, times, over, zero, one, two, largest, Number}
 use Rattle.scalar.specs.Grid.{OnGrid, IsCell, place, away}
 use Rattle.scalar.specs.Shares.{Close, NotNegative, Time}
-use Rattle.scalar.proofs.Order.{le-trans, le-of-lt, lt-of-le-of-lt, lt-of-lt-of-le, lt-trans, not-lt-of-le}
+use Rattle.scalar.proofs.Order.{le-trans, le-of-lt, lt-of-le-of-lt, lt-of-lt-of-le, lt-trans, lt-left, not-lt-of-le}
 use Rattle.scalar.proofs.Values.{value-as, lt-is, le-is, lt-of-values, zero-value}
 use Rattle.scalar.proofs.Grid.{offset-exact, cell-over-two, low-face-exact, high-face-exact, zero-on-grid, grid-lt, grid-eq}
-use Rattle.scalar.proofs.Shares.{rising-ahead, rising-behind, falling-ahead, falling-behind, close-lt, close-zero, close-above-zero, close-below-zero, close-not-above-zero, close-not-below-zero, close-below-largest}
+use Rattle.scalar.proofs.Shares.{rising-ahead, rising-behind, falling-ahead, falling-behind, close-lt, close-zero, close-above-zero, close-below-zero, close-not-above-zero, close-not-below-zero, close-below-largest, close-number}
 use Rattle.query.specs.Clip.{faceTime, beyond}
 use Rattle.query.specs.declared.aabb.Aabb.{Aabb}
 use Rattle.query.specs.declared.ray.Ray.{Ray}
@@ -49,7 +49,7 @@ lowest-value : HasValue (neg largest) true (16777215 * 2 ^ 104) 1
 unfolding ofBits neg
 lowest-value = (refl, refl)
 
-close-above-lowest : (s : Bool) (p q : ℕ) (v : Float) → 0 < q → p ≤ 1024 → Close s p q v → T (lt (neg largest) v)
+pub close-above-lowest : (s : Bool) (p q : ℕ) (v : Float) → 0 < q → p ≤ 1024 → Close s p q v → T (lt (neg largest) v)
 close-above-lowest s p q v Q h c =
     let n = c .units in
     let d : n < 2 ^ 160 = lt-of-mul-lt-mul-right q (omega (arith, c .most)) in
@@ -66,13 +66,29 @@ pub data FaceTime (p q : ℕ) (v : Float) : Type 0 where
   -- the line starts past the face
   behind : p ≡ 0 → T (lt v zero) → T (lt (neg largest) v) → FaceTime p q v
 
+pub face-above-lowest : (p q : ℕ) (v : Float) → 0 < q → p ≤ 1024 → FaceTime p q v → T (lt (neg largest) v)
+face-above-lowest p q v Q h (ahead s n c) = close-above-lowest s p q v Q h c
+face-above-lowest p q v Q h (behind z b l) = l
+
+zero-below-largest : T (lt zero largest)
+unfolding lt ofBits
+zero-below-largest = tt
+
+pub face-below-largest : (p q : ℕ) (v : Float) → 0 < q → p ≤ 1024 → FaceTime p q v → T (lt v largest)
+face-below-largest p q v Q h (ahead s n c) = close-below-largest s p q v Q h c
+face-below-largest p q v Q h (behind z b l) = lt-trans v zero largest b zero-below-largest
+
+pub face-number : (p q : ℕ) (v : Float) → FaceTime p q v → Number v
+face-number p q v (ahead s n c) = close-number s p q v c
+face-number p q v (behind z b l) = lt-left v zero b
+
 -- ---- one axis: x is the camera, at the grid number g, y the target, at h, and f a face, at i
 module _ (k : ℕ) (x y f : Float) (key : ℤ) (g h i : ℕ) (K : k ≤ 20) (l : natAbs key ≤ 4096) (G : g ≤ 1023) (H : h ≤ 1023) (I : i ≤ 1024)
     (X : OnGrid x k (place key g)) (Y : OnGrid y k (place key h)) (F : OnGrid f k (place key i)) where
   abbrev at-face : Float
   at-face = faceTime f x (minus y x)
 
-  rising-face : g < h → FaceTime (i - g) (h - g) at-face
+  pub rising-face : g < h → FaceTime (i - g) (h - g) at-face
   rising-face m = elim (cases-lt i g) [
     | inl n ↦
         let c = rising-behind k x y f key g h i K l G H I X Y F m n .product in
@@ -80,7 +96,7 @@ module _ (k : ℕ) (x y f : Float) (key : ℤ) (g h i : ℕ) (K : k ≤ 20) (l :
     | inr n ↦ ahead false (λ e. absurd (true≢false (sym e))) (rising-ahead k x y f key g h i K l G H I X Y F m n .product)
   ]
 
-  falling-face : h < g → FaceTime (g - i) (g - h) at-face
+  pub falling-face : h < g → FaceTime (g - i) (g - h) at-face
   falling-face m = elim (cases-order g i) [
     | inl e ↦
         let c = falling-behind k x y f key g h i K l G H I X Y F m (omega arith) .product in

@@ -1,3 +1,4 @@
 pub mod Slabs
 pub mod HitTimes
 pub mod Boxes
+pub mod LookEnd
