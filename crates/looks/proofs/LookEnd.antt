@@ -6,6 +6,7 @@ use Prim.Native.Nat.{ℕ, _-_, _≤_, _<_}
 use native.Mathlib.Omega.{arith}
 use lib.Dec.{T}
 use lib.IntN.{ℤ, pos, natAbs, _+ℤ_}
+use lib.Signed.{ltZ}
 use lib.Ieee.{Float, ofBits, neg, lt, le, eq}
 use Rattle.std.proofs.shelf.Signed.{ints}
 use Rattle.std.proofs.shelf.Tests.{cases-order}
@@ -16,7 +17,7 @@ use Rattle.scalar.specs.Single.{minus, times, zero, one, largest}
 use Rattle.scalar.specs.Grid.{OnGrid, IsCell, place, away}
 use Rattle.scalar.specs.Shares.{Close}
 use Rattle.scalar.proofs.Order.{le-of-lt, lt-of-le-of-lt, le-least, least-not-below-zero}
-use Rattle.scalar.proofs.Grid.{offset-exact, plane-exact, zero-on-grid, grid-eq}
+use Rattle.scalar.proofs.Grid.{offset-exact, plane-exact, zero-on-grid, grid-lt, grid-eq}
 use Rattle.scalar.proofs.Shares.{rising-ahead, rising-enters, falling-enters, falling-leaves, close-above-zero, close-below-one, close-later, close-below-largest}
 use Rattle.math.specs.declared.Vector.{Vector}
 use Rattle.math.specs.declared.Axis.{Axis}
@@ -87,3 +88,84 @@ module _ (k : ℕ) (x y lo hi : Float) (key : ℤ) (g h : ℕ) (K : k ≤ 20) (l
               far-bounded = close-below-largest false g (g - h) a (omega arith) (omega arith) c;
             })
       ]
+
+  axis-inside : beyond x lo hi ≡ false
+  axis-inside =
+      let s : ltZ (place key g) (place key 0) ≡ false = grind (arith, ints) in
+      let t : ltZ (place key 1024) (place key g) ≡ false = grind (arith, ints) in
+      rw (grid-lt k x lo (place key g) (place key 0) X L ∙ s, grid-lt k hi x (place key 1024) (place key g) U X ∙ t)
+
+chunk-axis : (e key : ℤ) (size : Float) (g h : ℕ) → T (exponentFits (Some e)) → natAbs key ≤ 4096 → size ≡ powerOfTwo e → g ≤ 1023 → h ≤ 1023
+    → Cut Before After (times (keyFloat key 0) size) (times (keyFloat key 8) size) (metres e key g) (minus (metres e key h) (metres e key g))
+chunk-axis e key size g h range l s G H =
+    let k = natAbs (e +ℤ pos 10) in
+    let b = exponent-bound e range in
+    let K = b .1 in
+    let c : IsCell size k = subst⁻¹ (λ (y : Float). IsCell y k) s (power-is-cell e k (b .0)) in
+    let x = metres e key g in
+    let y = metres e key h in
+    let lo = times (keyFloat key 0) size in
+    let hi = times (keyFloat key 8) size in
+    let xe = axis-position-exact e key g range l G in
+    let ye = axis-position-exact e key h range l H in
+    let loe = plane-exact k size key 0 K c l (omega arith) in
+    let hie = plane-exact k size key 8 K c l (omega arith) in
+    axis-cut k x y lo hi key g h K l G H xe ye loe hie (axis-inside k x y lo hi key g h K l G H xe ye loe hie)
+
+lowest-before : Before (neg largest)
+unfolding ofBits le neg
+lowest-before = tt
+
+largest-after : After largest
+unfolding ofBits lt
+largest-after = (tt, largest-is-late)
+
+end-of-clip : (c : LineClip) (s t : Float) → rayParameters c ≡ Some (s, t) → c .far .time ≡ t
+end-of-clip c s t h = go (lt (c .far .time) zero) h
+  where
+    go : (b : Bool) → cond {A = Option (Float × Float)} b None (Some (Floats.most (c .near .time) zero, c .far .time)) ≡ Some (s, t) → c .far .time ≡ t
+    go true h = none-is-not-some (s, t) h
+    go false h = let same : _≡_ {A = Float × Float} (Floats.most (c .near .time) zero, c .far .time) (s, t) = cc in ap (λ (x : Float × Float). x .1) same
+
+-- ---- the look
+module _ (f : ChunkFrame) (e : ℤ) (range : T (exponentFits (Some e))) (size : f .«voxel_size» ≡ cube e) (camera target : GridPoint) where
+  abbrev line : Ray
+  line = sightLine e (f .key) camera target
+
+  abbrev end : Float
+  end = look-clip f e range size camera target .end
+
+  chunk-cuts : (a : Axis) → Cut Before After (component (chunkBox f .mins) a) (component (chunkBox f .maxs) a) (component (line .origin) a) (component (line .dir) a)
+  unfolding chunkBox
+  chunk-cuts X = chunk-axis e (f .key .x) (f .«voxel_size» .x) (camera .x) (target .x) range (key-bound f .0) (ap (λ (v : Vector). v .x) size) (camera .ok .0) (target .ok .0)
+  chunk-cuts Y = chunk-axis e (f .key .y) (f .«voxel_size» .y) (camera .y) (target .y) range (key-bound f .1) (ap (λ (v : Vector). v .y) size) (camera .ok .1 .0) (target .ok .1 .0)
+  chunk-cuts Z = chunk-axis e (f .key .z) (f .«voxel_size» .z) (camera .z) (target .z) range (key-bound f .2) (ap (λ (v : Vector). v .z) size) (camera .ok .1 .1) (target .ok .1 .1)
+
+  -- the line stands still, or its clip ends late
+  pub look-end : ((a : Axis) → eq (component (line .dir) a) zero ≡ true) ⊎ Late end
+  unfolding clipRay
+  look-end =
+      let p = line-clipped Before After (λ n t b a. lt-of-le-of-lt n zero t b (a .0)) (λ t a. le-of-lt zero t (a .0)) (chunkBox f) (line .origin) (line .dir) lowest-before largest-after chunk-cuts in
+      let c = p .0 in
+      let k = look-clip f e range size camera target in
+      let same : c .far .time ≡ end = end-of-clip c (k .start) end (sym (ap (λ (o : Option LineClip). andThen o rayParameters) (p .1)) ∙ k .clip) in
+      by-clip c (p .2) same
+    where
+      by-clip : (c : LineClip) → Clipped Before After (λ n t b a. lt-of-le-of-lt n zero t b (a .0)) (λ t a. le-of-lt zero t (a .0)) (chunkBox f) (line .origin) (line .dir) c → c .far .time ≡ end
+          → ((a : Axis) → eq (component (line .dir) a) zero ≡ true) ⊎ Late end
+      by-clip c (stands s q) same = inl s
+      by-clip c (passes n t) same = inr (subst Late same (t .1))
+
+  -- ---- the limit of the look is its clip's end or the target, whichever comes first
+  abbrev limit : Float
+  limit = Floats.least end one
+
+  pub limit-not-below-zero : T (le zero limit)
+  limit-not-below-zero = least-not-below-zero end one (look-clip f e range size camera target .end-least) (le-of-lt zero one zero-below-one)
+
+  -- where the line moves, all that is close to a share before the target is within the limit
+  pub limit-late : (a : Axis) → eq (component (line .dir) a) zero ≡ false → Late limit
+  limit-late a m s p q v h l c = elim look-end [
+    | inl still ↦ absurd (true≢false (sym (still a) ∙ m))
+    | inr late ↦ le-least v end one (late s p q v h l c) (le-of-lt v one (close-below-one s p q v h l c .1))
+  ]
