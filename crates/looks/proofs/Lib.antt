@@ -2,3 +2,4 @@ pub mod Slabs
 pub mod HitTimes
 pub mod Boxes
 pub mod LookEnd
+pub mod BoxHits
