@@ -3,3 +3,4 @@ pub mod HitTimes
 pub mod Boxes
 pub mod LookEnd
 pub mod BoxHits
+pub mod EntryTimes
