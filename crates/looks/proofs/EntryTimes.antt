@@ -132,3 +132,118 @@ close-is-near false p q v s Q n c a b =
       most = same-most (c .units) p q (s .gone) (parts s) Q a (w .0);
       least = same-least (c .units) p q (s .gone) (parts s) Q b (w .1);
     }
+
+near-bound : (o t n : ℕ) → o ≤ 1023 → n ≤ 7 → nearDistance o t n ≤ 1024
+unfolding nearDistance
+near-bound o t n O N = go (ltb o t)
+  where
+    go : (v : Bool) → cond v (128 * n - o) (o - (128 * n + 128)) ≤ 1024
+    go true = omega arith
+    go false = omega arith
+
+lowest-below-zero : T (lt (neg largest) zero)
+unfolding ofBits lt neg
+lowest-below-zero = tt
+
+contains-each : (b : Aabb) (p : Vector) → contains b p ≡ true → (i : Axis) → beyond (component p (axisOf i)) (component (b .mins) (axisOf i)) (component (b .maxs) (axisOf i)) ≡ false
+unfolding contains
+contains-each b p h = λ i. each i (go (beyond (p .x) (b .mins .x) (b .maxs .x)) (beyond (p .y) (b .mins .y) (b .maxs .y)) (beyond (p .z) (b .mins .z) (b .maxs .z)) h)
+  where
+    go : (x y z : Bool) → cond x false (cond y false (cond z false true)) ≡ true → (x ≡ false) × (y ≡ false) × (z ≡ false)
+    go true y z e = absurd (true≢false (sym e))
+    go false true z e = absurd (true≢false (sym e))
+    go false false true e = absurd (true≢false (sym e))
+    go false false false e = (refl, refl, refl)
+
+    each : (i : Axis) → (beyond (p .x) (b .mins .x) (b .maxs .x) ≡ false) × (beyond (p .y) (b .mins .y) (b .maxs .y) ≡ false) × (beyond (p .z) (b .mins .z) (b .maxs .z) ≡ false)
+        → beyond (component p (axisOf i)) (component (b .mins) (axisOf i)) (component (b .maxs) (axisOf i)) ≡ false
+    each X w = w .0
+    each Y w = w .1
+    each Z w = w .2
+
+-- ---- three axes
+module _ (o t : Point) (c : Cell) (b : Aabb) (ray : Ray) (O : InGrid o) (E : InGrid t) (small : (i : Axis) → index c i ≤ 7) (axes : AxisBoxes o t c b ray) (s : Share) (entry : Entry o t c s) where
+  first : (i : Axis) → Moves (ray .dir) (axisOf i)
+      → FirstFace (coordinate o i) (coordinate t i) (index c i) (component (b .mins) (axisOf i)) (component (b .maxs) (axisOf i)) (component (ray .origin) (axisOf i)) (component (ray .dir) (axisOf i))
+  first i m =
+      first-is-near (coordinate o i) (coordinate t i) (index c i) (component (b .mins) (axisOf i)) (component (b .maxs) (axisOf i)) (component (ray .origin) (axisOf i)) (component (ray .dir) (axisOf i))
+      (axes i .slab) (touched-not-past s (coordinate o i) (coordinate t i) (index c i) (entry .touches i)) m
+
+  moves : (i : Axis) → 0 < spanOn o t i → Moves (ray .dir) (axisOf i)
+  moves i m =
+      span-moves (coordinate o i) (coordinate t i) (index c i) (component (b .mins) (axisOf i)) (component (b .maxs) (axisOf i)) (component (ray .origin) (axisOf i)) (component (ray .dir) (axisOf i)) (axes i .slab) m
+
+  abbrev faceOn : Axis → Float
+  faceOn i = firstFaceOn b (ray .origin) (ray .dir) (axisOf i)
+
+  first-number : (i : Axis) → Moves (ray .dir) (axisOf i) → Number (faceOn i)
+  first-number i m = face-number (nearOn o t c i) (spanOn o t i) (faceOn i) (first i m .time)
+
+  numbers : (a : Math.Axis) → Moves (ray .dir) a → Number (firstFaceOn b (ray .origin) (ray .dir) a)
+  numbers MathAxis.X = first-number X
+  numbers MathAxis.Y = first-number Y
+  numbers MathAxis.Z = first-number Z
+
+  -- the entry, as the latest share at a near face
+  module _ (r : Share) (latest : Latest o t c r) (s-r : NoLater s r) (r-s : NoLater r s) where
+    none-ahead : ((i : Axis) → 0 < spanOn o t i → nearOn o t c i ≡ 0) → s .gone ≡ 0
+    none-ahead z = none-gone (s .gone) (parts r) (r .gone) (parts s) (r .positive) s-r (by-face (latest .attained))
+      where
+        by-face : (r .gone ≡ 0) ⊎ ((i : Axis) × NearShare (coordinate o i) (coordinate t i) (index c i) r) → r .gone ≡ 0
+        by-face (inl e) = e
+        by-face (inr (i, n)) = n .gone ∙ z i (n .moves)
+
+    -- no near face comes after one whose time is the latest
+    no-later-face : (i : Axis) (v : Float) (sign : Bool) → LatestFace b (ray .origin) (ray .dir) v → 0 < spanOn o t i → Close sign (nearOn o t c i) (spanOn o t i) v
+        → r .gone * spanOn o t i ≤ nearOn o t c i * parts r
+    no-later-face i v sign l m k = by-face (latest .attained)
+      where
+        by-face : (r .gone ≡ 0) ⊎ ((j : Axis) × NearShare (coordinate o j) (coordinate t j) (index c j) r) → r .gone * spanOn o t i ≤ nearOn o t c i * parts r
+        by-face (inl e) = omega (arith, ap (λ (n : ℕ). n * spanOn o t i) e, zero-mul (spanOn o t i))
+        by-face (inr (j, n)) =
+            let d = moves j (n .moves) in
+            let h = faces-ordered (nearOn o t c j) (spanOn o t j) (nearOn o t c i) (spanOn o t i) (faceOn j) v (n .moves) m (omega (arith, O j, E j))
+                (near-bound (coordinate o i) (coordinate t i) (index c i) (O i) (small i)) (first j d .time) sign k (l .reached (axisOf j) d) in
+            rw (n .parts, n .gone) h
+
+    at-face : (i : Axis) (v : Float) → LatestFace b (ray .origin) (ray .dir) v → T (not (lt v zero)) → 0 < spanOn o t i → FaceTime (nearOn o t c i) (spanOn o t i) v → TimeNear s v
+    at-face i v l z m (behind e k w) = absurd (T-not (lt v zero) z k)
+    at-face i v l z m (ahead sign n k) =
+        let p = nearOn o t c i in
+        let q = spanOn o t i in
+        close-is-near sign p q v s m n k
+        (fraction-trans p q (r .gone) (parts r) (s .gone) (parts s) (omega (arith, r .positive)) (latest .reached i m) r-s)
+        (fraction-trans (s .gone) (parts s) (r .gone) (parts r) p q (omega (arith, r .positive)) s-r (no-later-face i v sign l m k))
+
+    at-axis : (i : Axis) (v : Float) → LatestFace b (ray .origin) (ray .dir) v → T (not (lt v zero)) → Moves (ray .dir) (axisOf i) → v ≡ faceOn i → TimeNear s v
+    at-axis i v l z m e = let k = first i m in at-face i v l z (k .moves) (subst⁻¹ (λ (x : Float). FaceTime (nearOn o t c i) (spanOn o t i) x) e (k .time))
+
+    latest-is-near : (v : Float) → LatestFace b (ray .origin) (ray .dir) v → T (not (lt v zero)) → (v ≡ neg largest) ⊎ ((a : Math.Axis) × Moves (ray .dir) a × (v ≡ firstFaceOn b (ray .origin) (ray .dir) a)) → TimeNear s v
+    latest-is-near v l z (inl e) = absurd (T-not (lt v zero) z (subst⁻¹ (λ (x : Float). T (lt x zero)) e lowest-below-zero))
+    latest-is-near v l z (inr (MathAxis.X, m, e)) = at-axis X v l z m e
+    latest-is-near v l z (inr (MathAxis.Y, m, e)) = at-axis Y v l z m e
+    latest-is-near v l z (inr (MathAxis.Z, m, e)) = at-axis Z v l z m e
+
+    time-is-near : (v : Float) → HitTime b (ray .origin) (ray .dir) v → TimeNear s v
+    time-is-near v (from-inside k z) =
+        subst⁻¹ (λ (x : Float). TimeNear s x) z (at-zero false s zero zero-value (none-ahead (λ i m.
+            let w = axes i .inside-back (contains-each b (ray .origin) k i) in near-of-inside (coordinate o i) (coordinate t i) (index c i) (w .0) (w .1))))
+    time-is-near v (past-faces n l k z) =
+        subst⁻¹ (λ (x : Float). TimeNear s x) z (at-zero false s zero zero-value (none-ahead (λ i m.
+            let d = moves i m in near-of-past (nearOn o t c i) (spanOn o t i) (faceOn i) (first i d .time) (lt-of-le-of-lt (faceOn i) n zero (l .reached (axisOf i) d) k))))
+    time-is-near v (at-latest l z) = latest-is-near v l z (l .attained)
+
+  pub cast-near-entry : (limit : Float) (h : RayIntersection) → boxCast b ray limit true ≡ Some h → TimeNear s (h .«time_of_impact»)
+  cast-near-entry limit h e =
+      let l = entry-is-latest o t c s entry in
+      time-is-near (l .0) (l .1) (l .2) (l .3) (h .«time_of_impact») (hit-time b ray limit h numbers e)
+
+-- ---- the look
+module _ (f : ChunkFrame) (e : ℤ) (range : T (exponentFits (Some e))) (size : f .«voxel_size» ≡ cube e) (camera target : GridPoint) where
+  pub hit-time-near-entry : (c : Cell) (s : Share) (limit : Float) (h : RayIntersection) → Entry (pointOf camera) (pointOf target) c s
+      → boxCast (cellBox f (keyOfCell c)) (sightLine e (f .key) camera target) limit true ≡ Some h → TimeNear s (h .«time_of_impact»)
+  hit-time-near-entry c s limit h entry =
+      let o = pointOf camera in
+      let t = pointOf target in
+      let small = touched-in-grid o t (in-grid camera) (in-grid target) c (s, entry .touches) in
+      cast-near-entry o t c (cellBox f (keyOfCell c)) (sightLine e (f .key) camera target) (in-grid camera) (in-grid target) small (box-axes f e range size camera target c small) s entry limit h
