@@ -1,34 +1,28 @@
 -- The box of a cell that the line crosses is hit within the limit of the look.
-use mathlib.Core.Path.{_≡_, refl, sym, ap, _∙_, subst, subst⁻¹}
+use mathlib.Core.Path.{_≡_, refl, sym, ap, _∙_, subst⁻¹}
 use mathlib.Core.Logic.{_⊎_, inl, inr}
-use mathlib.Core.Bool.{Bool, true, false, not, cond, true≢false}
+use mathlib.Core.Bool.{Bool, true, false, cond, true≢false}
 use Prim.Native.Nat.{ℕ, _+_, _-_, _*_, _≤_, _<_}
 use native.Mathlib.Nat.{zero-mul}
 use native.Mathlib.Omega.{arith}
 use lib.Dec.{T, ltb}
 use lib.IntN.{ℤ}
 use lib.Ieee.{Float, ofBits, neg, lt, le, eq}
-use lib.Ieee.Bits.{is-true, is-false}
-use Rattle.std.proofs.shelf.Ways.{tells}
+use lib.Ieee.Bits.{is-true}
 use Rattle.std.specs.Floats as Floats
 use Rattle.std.specs.Options.{isSome}
 use Rattle.std.specs.declared.option.Option.{Option}
 use Rattle.std.specs.declared.option.Option.the-variants.{None, Some}
 use Rattle.scalar.specs.Single.{zero, one, largest}
-use Rattle.scalar.specs.Shares.{Close, NotNegative}
 use Rattle.scalar.proofs.Order.{le-of-lt, le-trans, lt-of-lt-of-le}
 use Rattle.scalar.proofs.Shares.{close-lt, close-not-below-zero}
-use Rattle.math.specs.declared.Vector.{Vector}
 use Rattle.math.specs.declared.Axis as Math
 use Rattle.math.specs.declared.Axis.the-variants as MathAxis
 use Rattle.math.specs.Vectors.{component, zeroVector}
 use Rattle.query.specs.declared.aabb.Aabb.{Aabb}
 use Rattle.query.specs.declared.ray.Ray.{Ray}
-use Rattle.query.specs.declared.ray.RayIntersection.{RayIntersection}
-use Rattle.query.specs.declared.«clip_aabb_line».LinePoint.{LinePoint}
 use Rattle.query.specs.declared.«clip_aabb_line».LineClip.{LineClip}
 use Rattle.query.specs.Cast.{andThen}
-use Rattle.query.specs.Clip.{faceTime, clipLine}
 use Rattle.query.specs.Box.{boxPoint, boxHit, boxCast}
 use Rattle.voxels.specs.declared.frame.ChunkFrame.{ChunkFrame}
 use Rattle.voxels.specs.Lawful.{exponentFits}
@@ -38,13 +32,13 @@ use Rattle.sight.specs.Power.{cube}
 use Rattle.sight.specs.Sight.{sightLine}
 use Rattle.sight.proofs.LookStart.{look-clip}
 use Rattle.line.specs.Line.{Point, Cell, Axis, X, Y, Z, coordinate, index, Crosses}
-use Rattle.line.specs.Faces.{span, nearDistance, farDistance, spanOn, nearOn, farOn, Open}
+use Rattle.line.specs.Faces.{farDistance, spanOn, nearOn, farOn, Open}
 use Rattle.line.specs.Walk.{InGrid}
 use Rattle.line.proofs.Faces.{crossed-is-open, strictly-within}
 use Rattle.line.proofs.Walk.{touched-in-grid}
 use Rattle.looks.specs.Units.{pointOf, keyOfCell}
 use Rattle.looks.proofs.Slabs.{Ends, Cut, level, up, down, Clipped, stands, passes, line-clipped}
-use Rattle.looks.proofs.Boxes.{FaceTime, ahead, behind, face-above-lowest, face-below-largest, Slab, still, rising, falling, AxisBox, AxisBoxes, axisOf, box-axes}
+use Rattle.looks.proofs.Boxes.{FaceTime, ahead, behind, face-above-lowest, face-below-largest, Slab, still, rising, falling, AxisBoxes, axisOf, box-axes}
 use Rattle.looks.proofs.LookEnd.{Late, limit-late, limit-not-below-zero}
 
 -- ---- bounds

@@ -1,8 +1,8 @@
--- The box of a cell in floats beside the exact line: when the line is at its faces, that a crossed cell's box is hit, and how near the hit is to the entry.
+-- The box of a cell in floats beside the exact line: when the line is at its faces, axis by axis.
 use mathlib.Core.Path.{_≡_, refl, sym, ap, _∙_, subst, subst⁻¹}
-use mathlib.Core.Logic.{_⊎_, inl, inr}
-use mathlib.Core.Bool.{Bool, true, false, not, cond, _||_, true≢false}
-use Prim.Native.Nat.{ℕ, suc, _+_, _-_, _*_, _^_, _≤_, _<_}
+use mathlib.Core.Logic.{inl, inr}
+use mathlib.Core.Bool.{Bool, true, false, not, _||_, true≢false}
+use Prim.Native.Nat.{ℕ, _+_, _-_, _*_, _^_, _≤_, _<_}
 use native.Mathlib.Nat.{mul-lt-mul-of-pos-right, lt-of-mul-lt-mul-right}
 use native.Mathlib.Omega.{arith}
 use lib.Dec.{T, lt→ltb}
@@ -10,15 +10,14 @@ use lib.Pow.{pow-pos}
 use lib.IntN.{ℤ, pos, natAbs, _+ℤ_}
 use lib.Signed.{ltZ}
 use lib.Ieee.{Float, ofBits, neg, lt, le, eq, below}
-use lib.Ieee.Bits.{is-true, is-false}
 use lib.Ieee.Exact.{HasValue}
 use Rattle.std.proofs.shelf.Signed.{ints}
 use Rattle.std.proofs.shelf.Tests.{cases-lt, cases-order}
 use Rattle.scalar.specs.Single.{plus, minus, times, over, zero, one, two, largest, Number}
 use Rattle.scalar.specs.Grid.{OnGrid, IsCell, place, away}
-use Rattle.scalar.specs.Shares.{Close, NotNegative, Time}
-use Rattle.scalar.proofs.Order.{le-trans, le-of-lt, lt-of-le-of-lt, lt-of-lt-of-le, lt-trans, lt-left, not-lt-of-le}
-use Rattle.scalar.proofs.Values.{value-as, lt-is, le-is, lt-of-values, zero-value}
+use Rattle.scalar.specs.Shares.{Close, NotNegative}
+use Rattle.scalar.proofs.Order.{lt-of-le-of-lt, lt-of-lt-of-le, lt-trans, lt-left}
+use Rattle.scalar.proofs.Values.{value-as, lt-is, le-is, zero-value}
 use Rattle.scalar.proofs.Grid.{offset-exact, cell-over-two, low-face-exact, high-face-exact, zero-on-grid, grid-lt, grid-eq}
 use Rattle.scalar.proofs.Shares.{rising-ahead, rising-behind, falling-ahead, falling-behind, close-lt, close-zero, close-above-zero, close-below-zero, close-not-above-zero, close-not-below-zero, close-below-largest, close-number}
 use Rattle.query.specs.Clip.{faceTime, beyond}
@@ -28,7 +27,7 @@ use Rattle.math.specs.declared.Vector.{Vector}
 use Rattle.math.specs.declared.Axis as Math
 use Rattle.math.specs.declared.Axis.the-variants as MathAxis
 use Rattle.math.specs.Vectors.{component}
-use Rattle.std.specs.declared.option.Option.the-variants.{None, Some}
+use Rattle.std.specs.declared.option.Option.the-variants.{Some}
 use Rattle.voxels.specs.declared.frame.ChunkFrame.{ChunkFrame}
 use Rattle.voxels.specs.Lawful.{exponentFits}
 use Rattle.voxels.specs.Frame.{centre, cellBox}

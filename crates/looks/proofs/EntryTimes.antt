@@ -1,18 +1,16 @@
 -- The time at which the box of a cell is hit is near the share at which the exact line enters the cell.
 use mathlib.Core.Path.{_≡_, refl, sym, ap, _∙_, subst, subst⁻¹}
 use mathlib.Core.Logic.{_⊎_, inl, inr}
-use mathlib.Core.Bool.{Bool, true, false, not, cond, true≢false, _||_}
+use mathlib.Core.Bool.{Bool, true, false, not, cond, true≢false}
 use Prim.Native.Nat.{ℕ, suc, _+_, _-_, _*_, _^_, _≤_, _<_}
 use native.Mathlib.Nat.{zero-mul, mul-le-mul-right, le-of-mul-le-mul-right}
 use native.Mathlib.Omega.{arith}
 use lib.Dec.{T, ltb, T-not}
-use lib.Pow.{pow-pos}
 use lib.IntN.{ℤ}
 use lib.Ieee.{Float, ofBits, neg, lt, le, eq}
 use lib.Ieee.Bits.{is-true, is-false}
 use lib.Ieee.Exact.{HasValue}
-use Rattle.std.specs.declared.option.Option.{Option}
-use Rattle.std.specs.declared.option.Option.the-variants.{None, Some}
+use Rattle.std.specs.declared.option.Option.the-variants.{Some}
 use Rattle.scalar.specs.Single.{zero, one, largest, Number}
 use Rattle.scalar.specs.Shares.{Close, NotNegative}
 use Rattle.scalar.proofs.Order.{le-of-lt, lt-of-le-of-lt, not-lt-of-le}
@@ -33,7 +31,7 @@ use Rattle.voxels.specs.Frame.{cellBox}
 use Rattle.sight.specs.declared.«grid_point».GridPoint.{GridPoint}
 use Rattle.sight.specs.Power.{cube}
 use Rattle.sight.specs.Sight.{sightLine}
-use Rattle.line.specs.Line.{Point, Cell, Axis, X, Y, Z, coordinate, index, Share, parts, scaledCoordinate, NoLater, Within, TouchesAt, Entry}
+use Rattle.line.specs.Line.{Point, Cell, Axis, X, Y, Z, coordinate, index, Share, parts, NoLater, Within, Entry}
 use Rattle.line.specs.Faces.{span, nearDistance, spanOn, nearOn, NearShare, Latest}
 use Rattle.line.specs.Walk.{InGrid}
 use Rattle.line.proofs.Shares.{fraction-trans, cancel-parts-le, rising-above-start, falling-below-start}
@@ -42,7 +40,7 @@ use Rattle.line.proofs.Walk.{touched-in-grid}
 use Rattle.looks.specs.Units.{pointOf, keyOfCell}
 use Rattle.looks.specs.Times.{TimeNear}
 use Rattle.looks.proofs.HitTimes.{firstFace, firstFaceOn, Moves, LatestFace, HitTime, from-inside, past-faces, at-latest, hit-time}
-use Rattle.looks.proofs.Boxes.{FaceTime, ahead, behind, face-number, NotPast, Slab, still, rising, falling, AxisBox, AxisBoxes, axisOf, box-axes}
+use Rattle.looks.proofs.Boxes.{FaceTime, ahead, behind, face-number, NotPast, Slab, still, rising, falling, AxisBoxes, axisOf, box-axes}
 use Rattle.looks.proofs.BoxHits.{in-grid}
 
 -- ---- one axis of a touched cell

@@ -5,7 +5,6 @@ use mathlib.Core.Bool.{Bool, true, false, not, cond, _||_, true≢false}
 use native.Mathlib.Omega.{arith}
 use lib.Dec.{T}
 use lib.Ieee.{Float, neg, isNan, ofBits, lt, le, eq}
-use lib.Ieee.Bits.{is-true, is-false}
 use Rattle.scalar.specs.Single.{zero, largest, Number}
 use Rattle.scalar.proofs.Order.{le-of-lt, le-of-not-lt, le-trans, le-refl, le-right}
 use Rattle.math.specs.declared.Vector.{Vector}
@@ -24,32 +23,24 @@ use Rattle.query.specs.declared.«clip_aabb_line».Interval.{Interval}
 use Rattle.query.specs.declared.«clip_aabb_line».LinePoint.{LinePoint}
 use Rattle.query.specs.declared.«clip_aabb_line».LineClip.{LineClip}
 use Rattle.query.specs.Cast.{andThen}
-use Rattle.query.specs.Clip.{faceTime, orEdge, laterEntry, earlierExit, unlessEmpty, cutBySlab, clipAxis, wholeLine, clipAlong, clipSlabs, nearNormal, farNormal, contains, standsInside, insideOnly, joinEnds, clipLine}
+use Rattle.query.specs.Clip.{faceTime, orEdge, laterEntry, earlierExit, unlessEmpty, cutBySlab, clipAxis, wholeLine, clipAlong, clipSlabs, nearNormal, farNormal, contains, insideOnly, joinEnds, clipLine}
 use Rattle.query.specs.Box.{boxPoint, boxHit, boxCast}
 use Rattle.query.proofs.Options.{none-is-not-some, through}
+use Rattle.looks.proofs.Slabs.{metAt, met-at-one}
 
 -- ---- one bound
 entry-later : (b : Bound) (t : Float) (s : Side) → Number (b .time) → Number t → T (le (b .time) (laterEntry b t s .time)) × T (le t (laterEntry b t s .time))
 unfolding laterEntry orEdge
-entry-later b t s n m =
-    go (lt (b .time) t) (eq t (b .time)) (le-of-lt (b .time) t) (le-of-not-lt (b .time) t n m)
+entry-later b t s n m = go (lt (b .time) t) (eq t (b .time)) (le-of-lt (b .time) t) (le-of-not-lt (b .time) t n m)
   where
-    go : (u v : Bool) → (T u → T (le (b .time) t)) → (T (not u) → T (le t (b .time)))
-        → T (le (b .time) (cond u (record { time = t; side = s; edge = false }) (cond v (record { time = b .time; side = b .side; edge = true }) b) .time))
-        × T (le t (cond u (record { time = t; side = s; edge = false }) (cond v (record { time = b .time; side = b .side; edge = true }) b) .time))
+    go : (u v : Bool) → (T u → T (le (b .time) t)) → (T (not u) → T (le t (b .time))) → T (le (b .time) (metAt u v b t s .time)) × T (le t (metAt u v b t s .time))
     go true v h k = (h tt, le-refl t m)
     go false true h k = (le-refl (b .time) n, k tt)
     go false false h k = (le-refl (b .time) n, k tt)
 
 entry-is-one : (b : Bound) (t : Float) (s : Side) → (laterEntry b t s .time ≡ b .time) ⊎ (laterEntry b t s .time ≡ t)
 unfolding laterEntry orEdge
-entry-is-one b t s = go (lt (b .time) t) (eq t (b .time))
-  where
-    go : (u v : Bool) → ((cond u (record { time = t; side = s; edge = false }) (cond v (record { time = b .time; side = b .side; edge = true }) b) .time) ≡ b .time)
-        ⊎ ((cond u (record { time = t; side = s; edge = false }) (cond v (record { time = b .time; side = b .side; edge = true }) b) .time) ≡ t)
-    go true v = inr refl
-    go false true = inl refl
-    go false false = inl refl
+entry-is-one b t s = met-at-one (lt (b .time) t) (eq t (b .time)) b t s
 
 -- ---- one axis: the face that is passed first
 abbrev pub firstFace : Float → Float → Float → Float → Float

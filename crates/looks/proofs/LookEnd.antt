@@ -1,7 +1,7 @@
 -- The end of a look's clip: every share before the target comes before it.
-use mathlib.Core.Path.{_≡_, refl, sym, ap, _∙_, subst, subst⁻¹}
+use mathlib.Core.Path.{_≡_, sym, ap, _∙_, subst, subst⁻¹}
 use mathlib.Core.Logic.{_⊎_, inl, inr}
-use mathlib.Core.Bool.{Bool, true, false, not, cond, true≢false}
+use mathlib.Core.Bool.{Bool, true, false, cond, true≢false}
 use Prim.Native.Nat.{ℕ, _-_, _≤_, _<_}
 use native.Mathlib.Omega.{arith}
 use lib.Dec.{T}
@@ -37,8 +37,8 @@ use Rattle.sight.specs.Power.{powerOfTwo, cube}
 use Rattle.sight.specs.Sight.{sightLine}
 use Rattle.sight.proofs.Powers.{power-is-cell}
 use Rattle.sight.proofs.Positions.{metres, axis-position-exact}
-use Rattle.sight.proofs.LookStart.{AxisStart, look-clip}
-use Rattle.looks.proofs.Slabs.{Ends, Cut, level, up, down, Clipped, stands, passes, line-clipped}
+use Rattle.sight.proofs.LookStart.{look-clip}
+use Rattle.looks.proofs.Slabs.{Cut, level, up, down, Clipped, stands, passes, line-clipped}
 use Rattle.looks.proofs.Boxes.{rising-face, falling-face, face-above-lowest}
 
 -- all that is close to a share before the target comes no later

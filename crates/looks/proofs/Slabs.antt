@@ -1,7 +1,7 @@
 -- The clip of a line by a box whose near faces it passes before each far face: it exists, and its ends are among the faces' times.
-use mathlib.Core.Path.{_≡_, refl, sym, ap, _∙_, subst, subst⁻¹}
+use mathlib.Core.Path.{_≡_, refl, sym, ap, _∙_, subst⁻¹}
 use mathlib.Core.Logic.{_⊎_, inl, inr}
-use mathlib.Core.Bool.{Bool, true, false, not, cond, _||_, true≢false}
+use mathlib.Core.Bool.{Bool, true, false, not, cond, true≢false}
 use native.Mathlib.Omega.{arith}
 use lib.Dec.{T}
 use lib.Ieee.{Float, neg, lt, le, eq}
@@ -13,7 +13,7 @@ use Rattle.math.specs.declared.Axis.{Axis}
 use Rattle.math.specs.declared.Axis.the-variants.{X, Y, Z}
 use Rattle.math.specs.Vectors.{component, along, vneg, normalized}
 use Rattle.std.specs.declared.option.Option.{Option}
-use Rattle.std.specs.declared.option.Option.the-variants.{None, Some}
+use Rattle.std.specs.declared.option.Option.the-variants.{Some}
 use Rattle.query.specs.declared.aabb.Aabb.{Aabb}
 use Rattle.query.specs.declared.«clip_aabb_line».Side.{Side}
 use Rattle.query.specs.declared.«clip_aabb_line».Side.the-variants.{Inside, Low, High}
@@ -24,23 +24,28 @@ use Rattle.query.specs.Cast.{andThen}
 use Rattle.query.specs.Clip.{faceTime, orEdge, laterEntry, earlierExit, unlessEmpty, cutBySlab, clipAxis, wholeLine, clipAlong, clipSlabs, faceNormal, nearNormal, farNormal, beyond, contains, standsInside, insideOnly, joinEnds, clipLine}
 
 -- ---- one bound
-pub entry-kept : (P : Float → Type 0) (b : Bound) (t : Float) (s : Side) → P (b .time) → P t → P (laterEntry b t s .time)
-unfolding laterEntry orEdge
-entry-kept P b t s h k = go (lt (b .time) t) (eq t (b .time))
-  where
-    go : (u v : Bool) → P (cond u (record { time = t; side = s; edge = false }) (cond v (record { time = b .time; side = b .side; edge = true }) b) .time)
-    go true v = k
-    go false true = h
-    go false false = h
+-- an end so far, after a slab that is met at the time t: replaced by that, on an edge with it, or kept
+abbrev pub metAt : Bool → Bool → Bound → Float → Side → Bound
+metAt replaced edge b t s = cond replaced (record { time = t; side = s; edge = false }) (cond edge (record { time = b .time; side = b .side; edge = true }) b)
 
-pub exit-kept : (P : Float → Type 0) (b : Bound) (t : Float) (s : Side) → P (b .time) → P t → P (earlierExit b t s .time)
+pub met-at-one : (replaced edge : Bool) (b : Bound) (t : Float) (s : Side) → (metAt replaced edge b t s .time ≡ b .time) ⊎ (metAt replaced edge b t s .time ≡ t)
+met-at-one true edge b t s = inr refl
+met-at-one false true b t s = inl refl
+met-at-one false false b t s = inl refl
+
+met-keeps : (P : Float → Type 0) (replaced edge : Bool) (b : Bound) (t : Float) (s : Side) → P (b .time) → P t → P (metAt replaced edge b t s .time)
+met-keeps P replaced edge b t s h k = elim (met-at-one replaced edge b t s) [
+  | inl e ↦ subst⁻¹ P e h
+  | inr e ↦ subst⁻¹ P e k
+]
+
+entry-kept : (P : Float → Type 0) (b : Bound) (t : Float) (s : Side) → P (b .time) → P t → P (laterEntry b t s .time)
+unfolding laterEntry orEdge
+entry-kept P b t s h k = met-keeps P (lt (b .time) t) (eq t (b .time)) b t s h k
+
+exit-kept : (P : Float → Type 0) (b : Bound) (t : Float) (s : Side) → P (b .time) → P t → P (earlierExit b t s .time)
 unfolding earlierExit orEdge
-exit-kept P b t s h k = go (lt t (b .time)) (eq t (b .time))
-  where
-    go : (u v : Bool) → P (cond u (record { time = t; side = s; edge = false }) (cond v (record { time = b .time; side = b .side; edge = true }) b) .time)
-    go true v = k
-    go false true = h
-    go false false = h
+exit-kept P b t s h k = met-keeps P (lt t (b .time)) (eq t (b .time)) b t s h k
 
 -- is it a face?
 abbrev isFace : Side → Bool
@@ -48,25 +53,19 @@ isFace Inside = false
 isFace (Low axis) = true
 isFace (High axis) = true
 
+met-at-face : (replaced edge : Bool) (b : Bound) (t : Float) (s : Side) → isFace s ≡ true → (replaced ≡ true) ⊎ (isFace (b .side) ≡ true) → isFace (metAt replaced edge b t s .side) ≡ true
+met-at-face true edge b t s f h = f
+met-at-face false edge b t s f (inl e) = absurd (true≢false (sym e))
+met-at-face false true b t s f (inr h) = h
+met-at-face false false b t s f (inr h) = h
+
 entry-face : (b : Bound) (t : Float) (s : Side) → isFace s ≡ true → (lt (b .time) t ≡ true) ⊎ (isFace (b .side) ≡ true) → isFace (laterEntry b t s .side) ≡ true
 unfolding laterEntry orEdge
-entry-face b t s f (inl h) = ap (λ (u : Bool). isFace (cond u (record { time = t; side = s; edge = false }) (cond (eq t (b .time)) (record { time = b .time; side = b .side; edge = true }) b) .side)) h ∙ f
-entry-face b t s f (inr h) = go (lt (b .time) t) (eq t (b .time))
-  where
-    go : (u v : Bool) → isFace (cond u (record { time = t; side = s; edge = false }) (cond v (record { time = b .time; side = b .side; edge = true }) b) .side) ≡ true
-    go true v = f
-    go false true = h
-    go false false = h
+entry-face b t s f h = met-at-face (lt (b .time) t) (eq t (b .time)) b t s f h
 
 exit-face : (b : Bound) (t : Float) (s : Side) → isFace s ≡ true → (lt t (b .time) ≡ true) ⊎ (isFace (b .side) ≡ true) → isFace (earlierExit b t s .side) ≡ true
 unfolding earlierExit orEdge
-exit-face b t s f (inl h) = ap (λ (u : Bool). isFace (cond u (record { time = t; side = s; edge = false }) (cond (eq t (b .time)) (record { time = b .time; side = b .side; edge = true }) b) .side)) h ∙ f
-exit-face b t s f (inr h) = go (lt t (b .time)) (eq t (b .time))
-  where
-    go : (u v : Bool) → isFace (cond u (record { time = t; side = s; edge = false }) (cond v (record { time = b .time; side = b .side; edge = true }) b) .side) ≡ true
-    go true v = f
-    go false true = h
-    go false false = h
+exit-face b t s f h = met-at-face (lt t (b .time)) (eq t (b .time)) b t s f h
 
 -- ---- one axis
 
