@@ -231,7 +231,7 @@ module _ (k : ℕ) (x y lo hi : Float) (key : ℤ) (g h n : ℕ) (K : k ≤ 20) 
         beyond-is ∙ rw (s, t);
     inside-back = λ e.
         let s : ltZ (place key g) (place key (128 * n)) || ltZ (place key (128 * n + 128)) (place key g) ≡ false = sym beyond-is ∙ e in
-        (between key g n s);
+        between key g n s;
   }
     where
       between : (key : ℤ) (g n : ℕ) → ltZ (place key g) (place key (128 * n)) || ltZ (place key (128 * n + 128)) (place key g) ≡ false → (128 * n ≤ g) × (g ≤ 128 * n + 128)

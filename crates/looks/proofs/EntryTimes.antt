@@ -3,7 +3,7 @@ use mathlib.Core.Path.{_≡_, refl, sym, ap, _∙_, subst, subst⁻¹}
 use mathlib.Core.Logic.{_⊎_, inl, inr}
 use mathlib.Core.Bool.{Bool, true, false, not, cond, true≢false}
 use Prim.Native.Nat.{ℕ, suc, _+_, _-_, _*_, _^_, _≤_, _<_}
-use native.Mathlib.Nat.{zero-mul, mul-le-mul-right, le-of-mul-le-mul-right}
+use native.Mathlib.Nat.{zero-mul, suc-mul, mul-le-mul-right, le-of-mul-le-mul-right}
 use native.Mathlib.Omega.{arith}
 use lib.Dec.{T, ltb, T-not}
 use lib.IntN.{ℤ}
@@ -113,7 +113,7 @@ same-least u p q g P Q h c = le-of-mul-le-mul-right {k = q} (omega (arith, mul-l
 
 none-gone : (g q p P : ℕ) → 0 < q → g * q ≤ p * P → p ≡ 0 → g ≡ 0
 none-gone ℕ.zero q p P Q h z = refl
-none-gone (suc g) q p P Q h z = absurd (omega (arith, ap (λ (i : ℕ). i * P) z, zero-mul P, native.Mathlib.Nat.suc-mul g q))
+none-gone (suc g) q p P Q h z = absurd (omega (arith, ap (λ (i : ℕ). i * P) z, zero-mul P, suc-mul g q))
 
 close-is-near : (sign : Bool) (p q : ℕ) (v : Float) (s : Share) → 0 < q → NotNegative sign p → Close sign p q v → p * parts s ≤ s .gone * q → s .gone * q ≤ p * parts s → TimeNear s v
 close-is-near true p q v s Q n c a b =
@@ -201,7 +201,7 @@ module _ (o t : Point) (c : Cell) (b : Aabb) (ray : Ray) (O : InGrid o) (E : InG
         by-face (inr (j, n)) =
             let d = moves j (n .moves) in
             let h = faces-ordered (nearOn o t c j) (spanOn o t j) (nearOn o t c i) (spanOn o t i) (faceOn j) v (n .moves) m (omega (arith, O j, E j))
-                (near-bound (coordinate o i) (coordinate t i) (index c i) (O i) (small i)) (first j d .time) sign k (l .reached (axisOf j) d) in
+            (near-bound (coordinate o i) (coordinate t i) (index c i) (O i) (small i)) (first j d .time) sign k (l .reached (axisOf j) d) in
             rw (n .parts, n .gone) h
 
     at-face : (i : Axis) (v : Float) → LatestFace b (ray .origin) (ray .dir) v → T (not (lt v zero)) → 0 < spanOn o t i → FaceTime (nearOn o t c i) (spanOn o t i) v → TimeNear s v
@@ -225,10 +225,10 @@ module _ (o t : Point) (c : Cell) (b : Aabb) (ray : Ray) (O : InGrid o) (E : InG
     time-is-near : (v : Float) → HitTime b (ray .origin) (ray .dir) v → TimeNear s v
     time-is-near v (from-inside k z) =
         subst⁻¹ (λ (x : Float). TimeNear s x) z (at-zero false s zero zero-value (none-ahead (λ i m.
-            let w = axes i .inside-back (contains-each b (ray .origin) k i) in near-of-inside (coordinate o i) (coordinate t i) (index c i) (w .0) (w .1))))
+        let w = axes i .inside-back (contains-each b (ray .origin) k i) in near-of-inside (coordinate o i) (coordinate t i) (index c i) (w .0) (w .1))))
     time-is-near v (past-faces n l k z) =
         subst⁻¹ (λ (x : Float). TimeNear s x) z (at-zero false s zero zero-value (none-ahead (λ i m.
-            let d = moves i m in near-of-past (nearOn o t c i) (spanOn o t i) (faceOn i) (first i d .time) (lt-of-le-of-lt (faceOn i) n zero (l .reached (axisOf i) d) k))))
+        let d = moves i m in near-of-past (nearOn o t c i) (spanOn o t i) (faceOn i) (first i d .time) (lt-of-le-of-lt (faceOn i) n zero (l .reached (axisOf i) d) k))))
     time-is-near v (at-latest l z) = latest-is-near v l z (l .attained)
 
   pub cast-near-entry : (limit : Float) (h : RayIntersection) → boxCast b ray limit true ≡ Some h → TimeNear s (h .«time_of_impact»)
