@@ -3,3 +3,9 @@ pub mod LookLimit
 pub mod StepTimes
 pub mod Stepping
 pub mod Looking
+pub mod Slabs
+pub mod HitTimes
+pub mod Boxes
+pub mod LookEnd
+pub mod BoxHits
+pub mod EntryTimes
