@@ -9,3 +9,4 @@ pub mod Boxes
 pub mod LookEnd
 pub mod BoxHits
 pub mod EntryTimes
+pub mod Exactness

@@ -1,9 +1,7 @@
 -- What a look says, in the words of the exact line from camera to target.
 use mathlib.Core.Path.{_≡_}
 use mathlib.Core.Bool.{Bool, true, false}
-use Prim.Native.Nat.{ℕ, _+_, _*_, _^_, _≤_}
-use lib.Ieee.{Float}
-use lib.Ieee.Exact.{HasValue}
+use Prim.Native.Nat.{ℕ, _+_, _*_, _≤_}
 use Rattle.std.specs.Options.{isSome}
 use Rattle.std.specs.declared.option.Option.{Option}
 use Rattle.std.specs.declared.option.Option.the-variants.{None, Some}
@@ -12,8 +10,9 @@ use Rattle.query.specs.declared.«feature_id».FeatureId.the-variants.{Face}
 use Rattle.voxels.specs.declared.«chunk_cast».ChunkCast.{ChunkCast}
 use Rattle.voxels.specs.Frame.{cellNumber}
 use Rattle.voxels.specs.Chunk.{stops}
-use Rattle.line.specs.Line.{Point, Cell, Axis, index, Share, parts, NoLater, TouchesAt, Crosses, Entry}
+use Rattle.line.specs.Line.{Point, Cell, Axis, index, Share, NoLater, TouchesAt, Crosses, Entry}
 use Rattle.looks.specs.Units.{keyOfCell}
+use Rattle.looks.specs.Times.{TimeNear}
 
 -- the number of a cell whose indices are 0 to 7
 abbrev pub numberOf : Cell → ℕ
@@ -27,14 +26,6 @@ filledNumber kinds (Some n) = stops (kinds n)
 abbrev pub filledIn : (ℕ → ℕ) → Cell → Bool
 filledIn kinds c = filledNumber kinds (cellNumber (keyOfCell c))
 
--- the time differs from the share by at most 2^-22: it is `units` times 2^-149, and the share gone / parts
-pub record Near (time : Float) (s : Share) : Type 0 where
-  pub sign : Bool
-  pub units : ℕ
-  pub value : HasValue time sign units (2 ^ 149)
-  pub most : units * parts s * 2 ^ 22 ≤ s .gone * 2 ^ 149 * 2 ^ 22 + parts s * 2 ^ 149
-  pub least : s .gone * 2 ^ 149 * 2 ^ 22 ≤ units * parts s * 2 ^ 22 + parts s * 2 ^ 149
-
 -- the hit names a filled cell, which the line enters no later than it touches any filled cell that it crosses
 pub record NamesFirst (o t : Point) (id : ℕ) (kinds : ℕ → ℕ) (h : RayIntersection) : Type 0 where
   pub cell : Cell
@@ -44,7 +35,7 @@ pub record NamesFirst (o t : Point) (id : ℕ) (kinds : ℕ → ℕ) (h : RayInt
   pub share : Share
   pub entry : Entry o t cell share
   pub first : (c : Cell) → Crosses o t c → filledIn kinds c ≡ true → (r : Share) → TouchesAt o t c r → NoLater share r
-  pub near : Near (h .«time_of_impact») share
+  pub near : TimeNear share (h .«time_of_impact»)
 
 pub record ExactLook (o t : Point) (id : ℕ) (kinds : ℕ → ℕ) (r : ChunkCast) : Type 0 where
   -- a line that crosses the inside of a filled cell is not clear
