@@ -20,9 +20,12 @@ use Rattle.sight.specs.Ranges.{gridFits}
 use Rattle.sight.specs.Power.{cube}
 use Rattle.stores.specs.Store.{withCell}
 use Rattle.sight.specs.Cells.{cellIndex, cellAnswer}
+use Rattle.line.specs.Line.{Cell, Crosses}
 use Rattle.sight.specs.Sight.{lookAt}
+use Rattle.looks.specs.Units.{pointOf}
+use Rattle.looks.specs.Exact.{filledIn}
 use Rattle.session.specs.declared.outcome.Outcome.{Outcome}
-use Rattle.session.specs.declared.outcome.Outcome.the-variants.{Blank, Done, Refused, RoomMissing, RoomTwice, Unclear}
+use Rattle.session.specs.declared.outcome.Outcome.the-variants.{Blank, Done, Clear, Refused, RoomMissing, RoomTwice, Unclear}
 use Rattle.session.specs.Outcomes.{seen, doneOr}
 
 -- ---- a sight line
@@ -34,10 +37,20 @@ Stands p v = (pos (p .x) ≡ v .x) × ((pos (p .y) ≡ v .y) × (pos (p .z) ≡ 
 abbrev pub kindsIn : {S : Type 0} → (S → ℕ → ℕ) → Scan S → ℕ → ℕ
 kindsIn kinds s = kinds (s .chunk .cells)
 
--- refused where either end is no grid point, else what the look between them sees
+-- what the look between the two points sees
+abbrev pub Looked : {S : Type 0} → (S → ℕ → ℕ) → Scan S → IVector → IVector → Outcome → Type 0
+Looked kinds s camera target o = (p q : GridPoint) → Stands p camera → Stands q target → o ≡ seen (lookAt (s .exponent) (s .chunk .frame) (kindsIn kinds s) p q)
+
+-- where it is called clear, the exact line between the two points crosses the inside of no filled cell
+abbrev pub ClearIsRight : {S : Type 0} → (S → ℕ → ℕ) → Scan S → IVector → IVector → Outcome → Type 0
+ClearIsRight kinds s camera target o =
+    (visited : ℕ) → o ≡ Clear visited → (p q : GridPoint) → Stands p camera → Stands q target → (c : Cell) → Crosses (pointOf p) (pointOf q) c → filledIn (kindsIn kinds s) c ≡ false
+
+-- refused where either end is no grid point
 pub record Sees {S : Type 0} (kinds : S → ℕ → ℕ) (s : Scan S) (camera target : IVector) (o : Outcome) : Type 0 where
   pub refused : (gridFits camera && gridFits target) ≡ false → o ≡ Refused PointOutside
-  pub looked : (p q : GridPoint) → Stands p camera → Stands q target → o ≡ seen (lookAt (s .exponent) (s .chunk .frame) (kindsIn kinds s) p q)
+  pub looked : Looked kinds s camera target o
+  pub clear : ClearIsRight kinds s camera target o
 
 -- ---- a room
 

@@ -1,5 +1,6 @@
 // The corner that a setup file describes, as far as it has been read.
 use crate::outcome::Outcome;
+use looks::look;
 use math::IVector;
 use query::feature_id::FeatureId;
 use setup::Line;
@@ -38,7 +39,7 @@ fn sight<S: CellStore>(scan: &Scan<S>, camera: IVector, target: IVector) -> Outc
         Ok(point) => point,
         Err(refusal) => return Outcome::Refused(refusal),
     };
-    let cast = scan.look(&from, &to);
+    let cast = look(scan, &from, &to);
     match cast.hit {
         None => Outcome::Clear {
             visited: cast.visited,
