@@ -12,7 +12,7 @@ ghost use Rattle.setup.specs.Grammar.{lines};
 ghost use Rattle.session.specs.Runs.{Runs};
 
 // Carries out every line of a text, in order, on a store of cells of the kind S: an outcome for each line.
-// It fails only for want of memory.
+// Its one error is want of memory; that it does not say so needlessly is seen by running, not proved.
 pub fn run<S: CellStore + Drop>(heap: Global, text: &[u8]) -> Result<Vec<Outcome>, AllocError>
     ensures { λ r. ⌜ made r (λ v. Runs (S·CellStore .kinds) (S·CellStore .capacity) None (lines (now (text .entry))) (vec-items v)) ⌝ }
 {
