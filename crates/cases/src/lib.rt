@@ -1,4 +1,6 @@
 // Worked rays whose answers are known: proved of the definitions, and run through the code.
+#![tactic(auto)]
+
 #[cfg(test)]
 mod tests;
 

@@ -1,4 +1,6 @@
 // Answers comparison vectors: reads lines from standard input and writes them with the answers of this code.
+#![tactic(auto)]
+
 mod answer;
 mod case;
 mod words;

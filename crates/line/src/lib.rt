@@ -1,4 +1,6 @@
 // The exact sight line from a camera to a target through a grid of cells, in whole numbers. Its proofs are for the crates that look along such lines.
+#![tactic(auto)]
+
 ghost use Rattle.std.specs.Prelude.{◌≡◌, true};
 ghost use Rattle.line.specs.Exact.{ExactLine};
 

@@ -1,4 +1,6 @@
 // A look that is exact: its answer holds of the exact line from camera to target.
+#![tactic(auto)]
+
 ghost use Rattle.std.specs.Prelude.{◌≡◌, ℕ};
 ghost use Rattle.sight.specs.Sight.{look_at};
 ghost use Rattle.looks.specs.Units.{point_of};

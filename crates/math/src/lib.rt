@@ -1,4 +1,6 @@
 // Vectors, with a named function for each operation, rotations and poses.
+#![tactic(auto)]
+
 pub mod pose;
 pub mod rotation;
 

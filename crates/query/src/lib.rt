@@ -1,4 +1,6 @@
 // Rays and the casting interface.
+#![tactic(auto)]
+
 pub mod feature_id;
 pub mod first_hit;
 pub mod ray;

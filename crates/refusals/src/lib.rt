@@ -1,4 +1,6 @@
 // Why a call is turned away. A refusal changes nothing.
+#![tactic(auto)]
+
 ghost use Rattle.std.specs.Prelude.{◌≡◌, Some};
 ghost use Rattle.refusals.specs.Refusals.{refusal_number, refusal_text};
 

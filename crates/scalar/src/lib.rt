@@ -1,4 +1,6 @@
 // Facts of f32 that several crates rest on, and the square root.
+#![tactic(auto)]
+
 ghost use Rattle.std.specs.Prelude.{◌≡◌};
 ghost use Rattle.scalar.specs.Root.{RootOf};
 ghost use Rattle.scalar.specs.Scaled.{Scaled};

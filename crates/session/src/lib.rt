@@ -1,4 +1,6 @@
 // Carries out a setup file, line by line.
+#![tactic(auto)]
+
 pub mod display;
 pub mod outcome;
 pub mod run;

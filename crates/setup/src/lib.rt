@@ -1,4 +1,6 @@
 // Reads the lines of a setup file into statements.
+#![tactic(auto)]
+
 ghost use Rattle.std.specs.Prelude.{◌≡◌};
 ghost use Rattle.setup.specs.Grammar.{count};
 

@@ -1,4 +1,6 @@
 // Kinds of shapes that a ray can hit.
+#![tactic(auto)]
+
 pub mod ball;
 pub mod bounding_sphere;
 pub mod cuboid;

@@ -1,4 +1,6 @@
 // Reads a setup file, from the path that is its argument or from standard input, and says of each sight line whether it is clear.
+#![tactic(auto)]
+
 use session::outcome::Outcome;
 use session::run::run;
 use session::tally::tally_of;
