@@ -38,8 +38,8 @@ pub fn first_hit<E: RayCast>(
     max_time_of_impact: f32,
     solid: bool,
 ) -> Option<FirstHit>
-    ensures value { result ≡ first_among (hits_of (λ e. casts e ray.now max_time_of_impact solid) things.now) (length things.now) }
-    ensures earliest { NotBelowZero max_time_of_impact → Earliest (hits_of (λ e. casts e ray.now max_time_of_impact solid) things.now) (length things.now) result }
+    ensures value { result ≡ first_among (hits_of (λ e. E.casts e ray.now max_time_of_impact solid) things.now) (length things.now) }
+    ensures earliest { NotBelowZero max_time_of_impact → Earliest (hits_of (λ e. E.casts e ray.now max_time_of_impact solid) things.now) (length things.now) result }
 {
     let mut best: Option<FirstHit> = None;
     for i in 0..things.len() {

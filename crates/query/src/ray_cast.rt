@@ -12,7 +12,7 @@ pub fn cast_local_ray<T: RayCast>(
     max_time_of_impact: f32,
     solid: bool,
 ) -> Option<f32>
-    ensures { result ≡ time_of (casts thing.now ray.now max_time_of_impact solid) }
+    ensures { result ≡ time_of (T.casts thing.now ray.now max_time_of_impact solid) }
 {
     match thing.cast_local_ray_and_get_normal(ray, max_time_of_impact, solid) {
         None => None,
@@ -22,7 +22,7 @@ pub fn cast_local_ray<T: RayCast>(
 
 // Whether the solid thing is hit.
 pub fn intersects_local_ray<T: RayCast>(thing: &T, ray: &Ray, max_time_of_impact: f32) -> bool
-    ensures { result ≡ is_some (casts thing.now ray.now max_time_of_impact true) }
+    ensures { result ≡ is_some (T.casts thing.now ray.now max_time_of_impact true) }
 {
     cast_local_ray(thing, ray, max_time_of_impact, true).is_some()
 }
@@ -35,7 +35,7 @@ pub fn cast_ray<T: RayCast>(
     max_time_of_impact: f32,
     solid: bool,
 ) -> Option<f32>
-    ensures { result ≡ time_of (casts thing.now (local_ray m.now ray.now) max_time_of_impact solid) }
+    ensures { result ≡ time_of (T.casts thing.now (local_ray m.now ray.now) max_time_of_impact solid) }
 {
     cast_local_ray(
         thing,
@@ -53,7 +53,7 @@ pub fn cast_ray_and_get_normal<T: RayCast>(
     max_time_of_impact: f32,
     solid: bool,
 ) -> Option<RayIntersection>
-    ensures { result ≡ world_hit_of m.now (casts thing.now (local_ray m.now ray.now) max_time_of_impact solid) }
+    ensures { result ≡ world_hit_of m.now (T.casts thing.now (local_ray m.now ray.now) max_time_of_impact solid) }
 {
     let local = ray.inverse_transform_by(m);
     match thing.cast_local_ray_and_get_normal(&local, max_time_of_impact, solid) {
@@ -64,7 +64,7 @@ pub fn cast_ray_and_get_normal<T: RayCast>(
 
 // Whether the solid thing in a pose is hit.
 pub fn intersects_ray<T: RayCast>(thing: &T, m: &Pose, ray: &Ray, max_time_of_impact: f32) -> bool
-    ensures { result ≡ is_some (casts thing.now (local_ray m.now ray.now) max_time_of_impact true) }
+    ensures { result ≡ is_some (T.casts thing.now (local_ray m.now ray.now) max_time_of_impact true) }
 {
     intersects_local_ray(thing, &ray.inverse_transform_by(m), max_time_of_impact)
 }

@@ -2,13 +2,13 @@
 use Rattle.std.proofs.Common.{◌≡◌, ℕ, zero, suc, ◌+◌, ◌-◌, ◌*◌, ◌/◌, ◌%◌, ◌^◌, ◌<◌, ◌≤◌, Bool, true, false, cond, ◌&&◌, T, eqb, ltb, leb, ℤ, pos, negsuc, sym, refl, ap, ◌∙◌, subst, inl, inr, mul-le-mul_right, zero-lt-suc, mul_assoc, mul-le-mul, lt_of_mul-lt-mul_right, mul-le-mul_left, mul-lt-mul_of_pos_right, mul-pos, le_of_mul-le-mul_right, mul-div_cancel, mul_left_comm, arith, eqb→eq, ltb→lt, leb→le, pow_pos, pow_mono, pow-add}
 use native.Mathlib.Nat.{eq_of_mul-eq-mul_right}
 use lib.Arith.{lt_of_le-ne}
-use lib.Ieee.{Float, nan, inf, fin, binary32, up, down, size, round, fits}
+use lib.Ieee.{Float, nan, inf, fin, binary32, up, down, size, round, root_below, root_twice, fits}
 use lib.Ieee.Digits.{size-lt}
 use lib.Ieee.Fits.{up_pos, down_pos, and_l, and_r}
 use lib.Ieee.Exact.{HasValue}
 use lib.Ieee.Scale.{grid, round_val, normal_of_fraction}
 use Rattle.std.proofs.lemmas.Bool.{cases_lt, cases_eq, leb-true, leb-false, eqb-true, cond_both}
-use Rattle.std.specs.Float.{isqrt-below, twice-sqrt-sticky, sqrt}
+use Rattle.std.specs.Float.{sqrt}
 use Rattle.scalar.specs.Root.{NearestRoot, RootOf}
 use Rattle.scalar.proofs.Rounding.{grid_near, none_nearer}
 
@@ -24,13 +24,13 @@ root_digit n r h =
     (λ t. record { reached = leb-true ((2 * r + 1) * (2 * r + 1)) n t; passed = omega (arith, h.passed) })
     (λ t. record { reached = omega (arith, h.reached); passed = omega (arith, leb-false ((2 * r + 1) * (2 * r + 1)) n t) })
 
-root_digits : (k n : ℕ) → n < 2 ^ k → WholeRoot n (isqrt-below k n)
-unfolding isqrt-below
+root_digits : (k n : ℕ) → n < 2 ^ k → WholeRoot n (root_below k n)
+unfolding root_below
 root_digits zero n h = record { reached = omega arith; passed = omega arith }
-root_digits (suc k) n h = root_digit n (isqrt-below k (n / 4)) (root_digits k (n / 4) (omega arith))
+root_digits (suc k) n h = root_digit n (root_below k (n / 4)) (root_digits k (n / 4) (omega arith))
 
 abbrev whole_root : ℕ → ℕ
-whole_root n = isqrt-below (size n) n
+whole_root n = root_below (size n) n
 
 whole_root_lem : (n : ℕ) → WholeRoot n (whole_root n)
 whole_root_lem n = root_digits (size n) n (size-lt n)
@@ -45,8 +45,8 @@ record TwiceRoot (n t : ℕ) : Type 0 where
   over : (h : ℕ) → t ≤ 2 * h → 4 * n ≤ 2 * h * (2 * h)
   under : (h : ℕ) → 2 * h ≤ t → 2 * h * (2 * h) ≤ 4 * n
 
-twice_root : (n : ℕ) → TwiceRoot n (twice-sqrt-sticky n)
-unfolding twice-sqrt-sticky
+twice_root : (n : ℕ) → TwiceRoot n (root_twice n)
+unfolding root_twice
 twice_root n =
     cond_both (eqb (whole_root n * whole_root n) n) 0 1 (λ (d : ℕ). TwiceRoot n (2 * whole_root n + d))
     (λ e. record {
@@ -218,7 +218,7 @@ module _ (A a c W : ℕ) (P : 0 < A) (C : 0 < c) (is : W * c ≡ a * (A * A * 2 
       le_of_mul-le-mul_right {k = A * A} (omega (arith, is)) (mul-pos P P)
 
   -- the root of a value of the format is far from the subnormal values and from overflow
-  root_above : 0 < a → c ≤ 2 ^ 149 → A * 2 ^ 75 ≤ twice-sqrt-sticky W
+  root_above : 0 < a → c ≤ 2 ^ 149 → A * 2 ^ 75 ≤ root_twice W
   root_above Z h =
       let w : A * A * 2 ^ 149 ≤ W = elim (cases_lt W (A * A * 2 ^ 149)) [
         | inr l ↦ l
@@ -231,8 +231,8 @@ module _ (A a c W : ℕ) (P : 0 < A) (C : 0 < c) (is : W * c ≡ a * (A * A * 2 
       let s : A * 2 ^ 74 < suc (whole_root W) = squares_order (A * 2 ^ 74) (suc (whole_root W)) (omega (arith, (whole_root_lem W).passed, mul-pos P P)) in
       omega (arith, (twice_root W).least)
 
-  root_below : a < 2 ^ 128 * c → twice-sqrt-sticky W < A * 2 ^ 214
-  root_below h =
+  root_below_overflow : a < 2 ^ 128 * c → root_twice W < A * 2 ^ 214
+  root_below_overflow h =
       let x : a * (A * A * 2 ^ 298) < 2 ^ 128 * c * (A * A * 2 ^ 298) = mul-lt-mul_of_pos_right h (mul-pos (mul-pos P P) (pow_pos 298)) in
       let w : W < A * A * 2 ^ 426 = lt_of_mul-lt-mul_right c (omega (arith, is)) in
       let s : whole_root W < A * 2 ^ 213 = squares_order (whole_root W) (A * 2 ^ 213) (omega (arith, (whole_root_lem W).reached)) in
@@ -240,30 +240,30 @@ module _ (A a c W : ℕ) (P : 0 < A) (C : 0 < c) (is : W * c ≡ a * (A * A * 2 
 
 -- the number of units that std's root has
 abbrev root_units : ℕ → ℕ → ℕ
-root_units W D = grid binary32 (twice-sqrt-sticky W) D
+root_units W D = grid binary32 (root_twice W) D
 
 module _ (A a c W : ℕ) (P : 0 < A) (C : 0 < c) (is : W * c ≡ a * (A * A * 2 ^ 298)) (Z : 0 < a) (fine : c ≤ 2 ^ 149) (bounded : a < 2 ^ 128 * c)
     (D B : ℕ) (eD : D ≡ A * 2 ^ 150) (eB : A ≡ 2 * B) where
   D-pos : 0 < D
   D-pos = omega arith
 
-  normal : 24 ≤ size (twice-sqrt-sticky W * 2 ^ 149 / D)
-  normal = normal_of_fraction binary32 (twice-sqrt-sticky W) D D-pos (omega (arith, root_above A a c W P C is Z fine))
+  normal : 24 ≤ size (root_twice W * 2 ^ 149 / D)
+  normal = normal_of_fraction binary32 (root_twice W) D D-pos (omega (arith, root_above A a c W P C is Z fine))
 
   no_overflow : root_units W D < 2 ^ 277
   no_overflow = elim (cases_lt (root_units W D) (2 ^ 277)) [
     | inl l ↦ l
     | inr l ↦
-        let near = grid_near binary32 (twice-sqrt-sticky W) D (omega arith) D-pos normal in
+        let near = grid_near binary32 (root_twice W) D (omega arith) D-pos normal in
         let x : 2 ^ 277 * D ≤ root_units W D * D = mul-le-mul_right D l in
-        absurd (omega (arith, near.0, root_below A a c W P C is bounded))
+        absurd (omega (arith, near.0, root_below_overflow A a c W P C is bounded))
   ]
 
   many_units : 2 ^ 12 ≤ root_units W D
   many_units = elim (cases_lt (root_units W D) (2 ^ 12)) [
     | inr l ↦ l
     | inl l ↦
-        let near = grid_near binary32 (twice-sqrt-sticky W) D (omega arith) D-pos normal in
+        let near = grid_near binary32 (root_twice W) D (omega arith) D-pos normal in
         let x : root_units W D * D ≤ 2 ^ 12 * D = mul-le-mul_right D (omega arith) in
         absurd (omega (arith, near.1, root_above A a c W P C is Z fine))
   ]
@@ -279,8 +279,8 @@ module _ (A a c W : ℕ) (P : 0 < A) (C : 0 < c) (is : W * c ≡ a * (A * A * 2 
   at_or_above q v l =
       let g : ℕ = root_units W D in
       let s : ℕ = g + v.digits * 2 ^ v.shift in
-      let n : 2 * (twice-sqrt-sticky W * 2 ^ 149) ≤ s * D =
-      (none_nearer binary32 (twice-sqrt-sticky W) D (omega arith) D-pos normal v.digits v.shift v.few).0 (subst (λ (z : ℕ). g < z) v.is l) in
+      let n : 2 * (root_twice W * 2 ^ 149) ≤ s * D =
+      (none_nearer binary32 (root_twice W) D (omega arith) D-pos normal v.digits v.shift v.few).0 (subst (λ (z : ℕ). g < z) v.is l) in
       let t = (twice_root W).over (s * B) (omega (arith, n, sum_over s)) in
       subst (λ (z : ℕ). a * 2 ^ 300 ≤ (g + z) * (g + z) * c) (sym v.is) (over_square A a c W P C is s (rw sum_twice t))
 
@@ -288,8 +288,8 @@ module _ (A a c W : ℕ) (P : 0 < A) (C : 0 < c) (is : W * c ≡ a * (A * A * 2 
   at_or_below q v l =
       let g : ℕ = root_units W D in
       let s : ℕ = g + v.digits * 2 ^ v.shift in
-      let n : s * D ≤ 2 * (twice-sqrt-sticky W * 2 ^ 149) =
-      (none_nearer binary32 (twice-sqrt-sticky W) D (omega arith) D-pos normal v.digits v.shift v.few).1 (subst (λ (z : ℕ). z < g) v.is l) in
+      let n : s * D ≤ 2 * (root_twice W * 2 ^ 149) =
+      (none_nearer binary32 (root_twice W) D (omega arith) D-pos normal v.digits v.shift v.few).1 (subst (λ (z : ℕ). z < g) v.is l) in
       let t = (twice_root W).under (s * B) (omega (arith, n, sum_over s)) in
       subst (λ (z : ℕ). (g + z) * (g + z) * c ≤ a * 2 ^ 300) (sym v.is) (under_square A a c W P C is s (rw sum_twice t))
 
@@ -313,10 +313,10 @@ module _ (A a c W : ℕ) (P : 0 < A) (C : 0 < c) (is : W * c ≡ a * (A * A * 2 
         let between : (h < g) × (g + q < g + h) = omega (arith, m.is) in
         absurd (omega (arith, squares_lt (g + q) (g + h) c C between.1, at_or_below h m.digits between.0)))
 
-    rounded_root_nearest : NearestRoot a c (round binary32 false (twice-sqrt-sticky W) D)
+    rounded_root_nearest : NearestRoot a c (round binary32 false (root_twice W) D)
     rounded_root_nearest = record {
       units = root_units W D;
-      value = round_val binary32 (twice-sqrt-sticky W) D no_overflow;
+      value = round_val binary32 (root_twice W) D no_overflow;
       above = λ y q f v l. strictly_above q (value_digits y q f v) l;
       below = λ y q f v l. strictly_below q (value_digits y q f v) l;
     }
@@ -341,11 +341,22 @@ root_nearest m e f =
     (2 ^ 2272) (2 ^ 2121) refl refl
     (suc m) (raised e) (lowered e) (ap (λ (z : ℕ). suc m * z) (up_is e)) (down_is e) v.odd v.few
 
+-- the one way to write a zero
+pub zero_exponent : (s : Bool) (e : ℤ) → T (fits binary32 (fin s 0 e)) → e ≡ pos 0
+unfolding fits
+zero_exponent s (pos zero) f = refl
+zero_exponent s (pos (suc k)) f =
+    let h : 2 ^ suc k * 1 ≡ 1 = eqb→eq (2 ^ suc k * 1) 1 f in
+    absurd (omega (arith, h, pow-add 2 k 1, pow_pos k))
+zero_exponent s (negsuc k) f =
+    let h : 1 * 2 ^ suc k ≡ 1 = eqb→eq (1 * 2 ^ suc k) 1 f in
+    absurd (omega (arith, h, pow-add 2 k 1, pow_pos k))
+
 pub root_of : (x : Float) → T (fits binary32 x) → RootOf x (sqrt binary32 x)
 unfolding sqrt
 root_of nan f = refl
 root_of (inf false) f = refl
 root_of (inf true) f = refl
-root_of (fin s zero e) f = refl
+root_of (fin s zero e) f = ap (fin s 0) (sym (zero_exponent s e f))
 root_of (fin true (suc m) e) f = refl
 root_of (fin false (suc m) e) f = root_nearest m e f

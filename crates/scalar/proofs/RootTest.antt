@@ -1,17 +1,17 @@
 -- The test that certifies an estimate of a root: where s * s - s < n ≤ s * s + s, no other value is as near to the root of n as s, so s gives std's root.
 use Rattle.std.proofs.Common.{◌≡◌, ℕ, suc, ◌+◌, ◌-◌, ◌*◌, ◌/◌, ◌%◌, ◌^◌, ◌<◌, ◌≤◌, true, false, ◌||◌, T, eqb, ℤ, sym, refl, ap, ◌∙◌, subst, inl, inr, true≢false, le_trans, mul-le-mul_right, mul_assoc, mul-le-mul, lt_of_mul-lt-mul_right, mul-le-mul_left, mul-pos, arith, eqb→eq, pow_pos, pow-add}
-use lib.Ieee.{Float, nan, inf, fin, binary32, up, down, fits, to_bits, of_bits, odd, le}
+use lib.Ieee.{Float, nan, inf, fin, binary32, up, down, fits, to_bits, of_bits, odd, le, root_twice}
 use lib.Ieee.Fits.{up_pos, down_pos, round-fits, and_l}
 use lib.Ieee.Order.{le_of_values}
 use lib.Ieee.Bits.{of_bits-to_bits, of_bits-fits}
 use lib.Ieee.Exact.{HasValue}
 use Rattle.std.proofs.lemmas.Bool.{cases_lt, cases_eq, cases_order}
-use Rattle.std.specs.Float.{twice-sqrt-sticky, sqrt}
+use Rattle.std.specs.Float.{sqrt}
 use Rattle.scalar.specs.Root.{NearestRoot}
 use Rattle.scalar.specs.Scaled.{Scaled}
 use Rattle.scalar.specs.Single.{zero, NotBelowZero}
 use Rattle.scalar.proofs.Rounding.{multiple}
-use Rattle.scalar.proofs.NearestRoot.{Digits, value_digits, root_nearest}
+use Rattle.scalar.proofs.NearestRoot.{Digits, value_digits, root_nearest, zero_exponent}
 use Rattle.scalar.proofs.Values.{same_units, pattern_value}
 
 -- ---- the test. V is 2 ^ k, s * V the units that the estimate gives, u those of the nearest root; the sum u + s * V is twice their middle
@@ -69,7 +69,7 @@ module _ (n s k c u : ℕ) (n-least : 2 ^ 46 ≤ n) (s-least : 2 ^ 23 ≤ s) (un
 -- ---- an estimate that passes gives the nearest root
 root_fits : (m : ℕ) (e : ℤ) → T (fits binary32 (sqrt binary32 (fin false (suc m) e)))
 unfolding sqrt
-root_fits m e = round-fits binary32 false (twice-sqrt-sticky (suc m * up e * 2 ^ 4542 / down e)) (2 ^ 2272)
+root_fits m e = round-fits binary32 false (root_twice (suc m * up e * 2 ^ 4542 / down e)) (2 ^ 2272)
 
 nearest_root_is : (a c n s k : ℕ) (r y : Float) → T (fits binary32 r) → T (fits binary32 y) → NearestRoot a c r → HasValue y false (s * 2 ^ k) (2 ^ 149)
     → a * 2 ^ 300 ≡ 4 * (n * (2 ^ k * 2 ^ k) * c) → 2 ^ 46 ≤ n → 2 ^ 23 ≤ s → s * s < n + s → n ≤ s * s + s → y ≡ r
@@ -158,7 +158,7 @@ unfolding sqrt le of_bits
 root_not_below_zero nan f h = absurd h
 root_not_below_zero (inf false) f h = tt
 root_not_below_zero (inf true) f h = absurd h
-root_not_below_zero (fin s ℕ.zero e) f h = h
+root_not_below_zero (fin s ℕ.zero e) f h = subst (λ (z : ℤ). NotBelowZero (fin s 0 z)) (zero_exponent s e f) h
 root_not_below_zero (fin true (suc m) e) f h =
     let none : 0 * 1 * down e ≡ suc m * up e * 1 = eqb→eq (0 * 1 * down e) (suc m * up e * 1) (and_l _ (false || eqb (0 * 1 * down e) 0) h) in
     absurd (omega (arith, mul-pos {m = suc m} (omega arith) (up_pos e)))

@@ -5,6 +5,6 @@ use Rattle.scalar.proofs.certified_root.Goals as goal
 
 pub returns : goal.returns
 returns c =
-    c.f32-from-bits-with-nan.ensures
-    ∙ estimate_is_root c.args.x c.args.n c.args.k c.args.s (subst⁻¹ T c.well-formed.0.1 tt) c.requires
+    c.f32_from_bits_with_nan.ensures
+    ∙ estimate_is_root c.args.x c.args.n c.args.k c.args.s (subst⁻¹ T c.well_formed.0.1 tt) c.requires
     c.if-s-lt8388608.false c.if-s-ge16777216.false c.if-n-wide.false c.if-n-square.false

@@ -10,8 +10,8 @@ use Rattle.scalar.proofs.sqrt.Goals as goal
 pub returns : goal.returns
 returns c =
     let x : Float = c.args.x in
-    let fits = subst⁻¹ T c.well-formed.0.1 tt in
-    let same = c.root-by-estimate.ensures in
+    let fits = subst⁻¹ T c.well_formed.0.1 tt in
+    let same = c.root_by_estimate.ensures in
     record {
       value = same;
       bound = λ h. subst⁻¹ NotBelowZero same (root_not_below_zero x fits h);

@@ -1,6 +1,5 @@
 // The few store as a cell store.
 ghost use Rattle.stores.specs.Few.{FirstAt, few_kinds};
-ghost use Rattle.std.proofs.Common.{rules, arith};
 
 use super::{FewStore, Place};
 use crate::cell_store::{CellStore, StoreRefusal};
@@ -24,9 +23,9 @@ impl CellStore for FewStore {
 
     ghost capacity = { 64 };
 
-    ghost binary = { first_of (Prim.search rules, Prim.grind (arith, Self.row.coded.inj)) };
+    ghost binary = { λ s n. s.ok.1 n };
 
-    ghost outside = { first_of (Prim.search rules, Prim.grind (arith, Self.row.coded.inj)) };
+    ghost outside = { λ s n h. s.ok.2 n h };
 
     fn new() -> FewStore {
         FewStore {

@@ -1,7 +1,6 @@
 // The table store as a cell store.
 ghost use Rattle.stores.specs.Table.{table_kinds};
 ghost use Rattle.stores.specs.TableLemmas.{outside_empty};
-ghost use Rattle.std.proofs.Common.{rules, arith};
 
 use super::TableStore;
 use crate::cell_store::{CellStore, StoreRefusal};
@@ -11,7 +10,7 @@ impl CellStore for TableStore {
 
     ghost capacity = { 512 };
 
-    ghost binary = { first_of (Prim.search rules, Prim.grind (arith, Self.row.coded.inj)) };
+    ghost binary = { λ s n. s.ok.1 n };
 
     ghost outside = { λ s. outside_empty s.cells s.ok };
 

@@ -2,9 +2,9 @@ use Rattle.std.proofs.Common.{rules}
 use Rattle.query.specs.FirstHit.{earlier}
 use Rattle.query.proofs.first_hit.earlier.Goals as goal
 
-pub returns-in-default : goal.returns-in-default
+pub returns-in_default : goal.returns-in_default
 unfolding earlier
-returns-in-default c = search rules
+returns-in_default c = search rules
 
 pub returns-in-None : goal.returns-in-None
 unfolding earlier

@@ -14,12 +14,12 @@ loop-i-init g c = refl
 pub loop-i-preserved : goal.loop-i-preserved
 unfolding first_among
 loop-i-preserved g c =
-    let cast : g.row.E.Denot → Option RayIntersection = λ e. g.E.RayCast.casts e c.args.ray.now c.args.max-time-of-impact c.args.solid in
+    let cast : g.row.E.Denot → Option RayIntersection = λ e. g.E.RayCast.casts e c.args.ray.now c.args.max_time_of_impact c.args.solid in
     let things = c.args.things.now in
     let hits = hits_of cast things in
     let i = c.loop-i.i in
-    let found : c.cast-local-ray-and-get-normal-found.result ≡ hits i =
-    c.cast-local-ray-and-get-normal-found.ensures ∙ ap cast c.index-things-i.is ∙ sym (hit_at_index cast things i c.index-things-i.result c.loop-i-test.true) in
+    let found : c.cast_local_ray_and_get_normal-found.result ≡ hits i =
+    c.cast_local_ray_and_get_normal-found.ensures ∙ ap cast c.index-things-i.is ∙ sym (hit_at_index cast things i c.index-things-i.result c.loop-i-test.true) in
     c.earlier-best.ensures
     ∙ ap (λ (o : Option RayIntersection). earlier c.loop-i.best i o) found
     ∙ ap (λ (b : Option FirstHit). earlier b i (hits i)) c.loop-i.invariant
@@ -27,7 +27,7 @@ loop-i-preserved g c =
 
 pub returns : goal.returns
 returns g c =
-    let cast : g.row.E.Denot → Option RayIntersection = λ e. g.E.RayCast.casts e c.args.ray.now c.args.max-time-of-impact c.args.solid in
+    let cast : g.row.E.Denot → Option RayIntersection = λ e. g.E.RayCast.casts e c.args.ray.now c.args.max_time_of_impact c.args.solid in
     let hits = hits_of cast c.args.things.now in
     let n = length c.args.things.now in
     let all : c.loop-i.i ≡ n = omega arith in
@@ -37,5 +37,5 @@ returns g c =
       earliest = λ reach. subst (Earliest hits n) (sym value)
           (first_is_earliest hits (λ k h e.
           let x = hit_of_some cast c.args.things.now k h e in
-          le_right Single.zero h.time_of_impact (g.met.E.RayCast.timed x.0 c.args.ray.now c.args.max-time-of-impact c.args.solid h reach x.1).0) n);
+          le_right Single.zero h.time_of_impact (g.met.E.RayCast.timed x.0 c.args.ray.now c.args.max_time_of_impact c.args.solid h reach x.1).0) n);
     }

@@ -2,14 +2,14 @@ use Rattle.std.proofs.Common.{Some, sym, refl, ap, ◌∙◌, arith, rules}
 use Rattle.std.proofs.lemmas.Bool.{eqb-true, eqb-false}
 use Rattle.setup.proofs.Numbers.{read_more, read_all, read_no, read_bound, natural_some, natural_letters, natural_empty, natural_long}
 use Rattle.setup.proofs.number.natural_number.Goals as goal
-use Rattle.setup.proofs.number.natural_number.Goals.{then-is-empty-via-then-is-empty, then-is-empty-via-else-is-empty+then-digits-gt9}
+use Rattle.setup.proofs.number.natural_number.Goals.{then-is_empty-via-then-is_empty, then-is_empty-via-else-is_empty+then-digits-gt9}
 
-pub returns-then-is-empty : goal.returns-then-is-empty
-returns-then-is-empty c = record {
+pub returns-then-is_empty : goal.returns-then-is_empty
+returns-then-is_empty c = record {
   value =
-      elim c.then-is-empty.branch [
-        | then-is-empty-via-then-is-empty w ↦ sym (natural_empty _ (eqb-true _ _ (sym w.if-is-empty.ensures)))
-        | then-is-empty-via-else-is-empty+then-digits-gt9 w ↦ sym (natural_long _ w.if-digits-gt9.true)
+      elim c.then-is_empty.branch [
+        | then-is_empty-via-then-is_empty w ↦ sym (natural_empty _ (eqb-true _ _ (sym w.if-is_empty.ensures)))
+        | then-is_empty-via-else-is_empty+then-digits-gt9 w ↦ sym (natural_long _ w.if-digits-gt9.true)
       ];
   bound = tt;
 }
@@ -17,25 +17,25 @@ returns-then-is-empty c = record {
 pub loop-digit-init : goal.loop-digit-init
 loop-digit-init c = record { digits = refl; value = refl; small = omega arith }
 
-pub returns-then-not-is-ascii-digit : goal.returns-then-not-is-ascii-digit
-returns-then-not-is-ascii-digit c =
-    record { value = sym (natural_letters _ (read_no _ _ _ c.loop-digit.invariant c.loop-digit-test.true (sym c.if-not-is-ascii-digit.ensures.value))); bound = tt }
+pub returns-then-not-is_ascii_digit : goal.returns-then-not-is_ascii_digit
+returns-then-not-is_ascii_digit c =
+    record { value = sym (natural_letters _ (read_no _ _ _ c.loop-digit.invariant c.loop-digit-test.true (sym c.if-not-is_ascii_digit.ensures.value))); bound = tt }
 
-pub overflow-mul-value : goal.overflow-mul-value
-overflow-mul-value c = search (rules, read_bound c.args.digits.now c.loop-digit.digit-index c.loop-digit.value c.loop-digit.invariant 8)
+pub overflow_mul-value : goal.overflow_mul-value
+overflow_mul-value c = search (rules, read_bound c.args.digits.now c.loop-digit.digit-index c.loop-digit.value c.loop-digit.invariant 8)
 
-pub overflow-add-value : goal.overflow-add-value
-overflow-add-value c = search (rules, read_bound c.args.digits.now c.loop-digit.digit-index c.loop-digit.value c.loop-digit.invariant 8)
+pub overflow_add-value : goal.overflow_add-value
+overflow_add-value c = search (rules, read_bound c.args.digits.now c.loop-digit.digit-index c.loop-digit.value c.loop-digit.invariant 8)
 
 pub loop-digit-preserved : goal.loop-digit-preserved
 loop-digit-preserved c =
-    read_more _ _ _ c.loop-digit.invariant _ c.loop-digit-test.true (sym c.if-not-is-ascii-digit.ensures.value) c.from.ensures
+    read_more _ _ _ c.loop-digit.invariant _ c.loop-digit-test.true (sym c.if-not-is_ascii_digit.ensures.value) c.from.ensures
 
 pub returns : goal.returns
 returns c =
     let digits = c.args.digits.now in
     let read = read_all _ _ _ c.loop-digit.invariant c.loop-digit-test.false in
-    let some = eqb-false _ _ (sym c.if-is-empty.ensures) in
+    let some = eqb-false _ _ (sym c.if-is_empty.ensures) in
     record {
       value = ap Some read.1 ∙ sym (natural_some digits read.0 (omega arith) c.if-digits-gt9.false);
       bound = read_bound digits _ _ c.loop-digit.invariant 9 (omega arith);

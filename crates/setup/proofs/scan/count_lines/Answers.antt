@@ -3,6 +3,6 @@ use Rattle.setup.specs.Grammar.{lines, newline}
 use Rattle.setup.proofs.Pieces.{pieces_few}
 use Rattle.setup.proofs.scan.count_lines.Goals as goal
 
-pub overflow-add-count : goal.overflow-add-count
+pub overflow_add-count : goal.overflow_add-count
 unfolding lines
-overflow-add-count c = search (rules, pieces_few newline c.args.text.now, ap length c.in-Some.ensures.first)
+overflow_add-count c = search (rules, pieces_few newline c.args.text.now, ap length c.in-Some.ensures.first)

@@ -7,20 +7,20 @@ use Rattle.setup.specs.Grammar.{lines, other, newline}
 use Rattle.setup.proofs.Pieces.{pieces_first, pieces_last}
 use Rattle.setup.proofs.scan.split_line.Goals as goal
 
-pub returns-then-is-empty : goal.returns-then-is-empty
+pub returns-then-is_empty : goal.returns-then-is_empty
 unfolding lines
-returns-then-is-empty c =
-    let empty = eqb-true _ _ (sym c.if-is-empty.ensures) in
+returns-then-is_empty c =
+    let empty = eqb-true _ _ (sym c.if-is_empty.ensures) in
     record { first = ap lines (nil_from_length _ empty); shorter = tt }
 
 pub returns-then-end-text : goal.returns-then-end-text
 unfolding lines
 returns-then-end-text c =
     let text = c.args.text.now in
-    let end = c.line-len-end.result in
+    let end = c.line_len-end.result in
     let rest = length-drop (end + 1) text in
     record {
-      first = rw (sub-zero, take_rest) (pieces_first newline text end c.line-len-end.ensures c.if-end-text.true);
+      first = rw (sub-zero, take_rest) (pieces_first newline text end c.line_len-end.ensures c.if-end-text.true);
       shorter = rw take_rest (omega arith);
     }
 
@@ -28,7 +28,7 @@ pub returns-else-end-text : goal.returns-else-end-text
 unfolding lines
 returns-else-end-text c =
     let text = c.args.text.now in
-    let some = eqb-false _ _ (sym c.if-is-empty.ensures) in
+    let some = eqb-false _ _ (sym c.if-is_empty.ensures) in
     let all = prefix_len-le-length (other newline) text in
-    let end = c.line-len-end.ensures in
+    let end = c.line_len-end.ensures in
     record { first = pieces_last newline text (omega arith) (omega arith); shorter = omega arith }

@@ -5,8 +5,8 @@ use Rattle.setup.specs.Grammar.{other, hash}
 use Rattle.setup.proofs.Words.{uncommented_is}
 use Rattle.setup.proofs.scan.without_comment.Goals as goal
 
-pub slice-bounds-result-end : goal.slice-bounds-result-end
-slice-bounds-result-end c = search (rules, prefix_len-le-length (other hash) c.args.line.now)
+pub slice_bounds-result-end : goal.slice_bounds-result-end
+slice_bounds-result-end c = search (rules, prefix_len-le-length (other hash) c.args.line.now)
 
 pub returns : goal.returns
-returns c = rw sub-zero (sym (uncommented_is c.args.line.now c.content-len.result c.content-len.ensures))
+returns c = rw sub-zero (sym (uncommented_is c.args.line.now c.content_len.result c.content_len.ensures))

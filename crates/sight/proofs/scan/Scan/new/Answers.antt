@@ -8,8 +8,8 @@ use Rattle.grid.specs.declared.frame.ChunkFrame.{ChunkFrame}
 use Rattle.grid.proofs.Making.{exponent_range}
 use Rattle.sight.proofs.scan.Scan.new.Goals as goal
 
-pub invariant-of-result : goal.invariant-of-result
-invariant-of-result g c =
+pub invariant_of-result : goal.invariant_of-result
+invariant_of-result g c =
     let same : to_z w32 (of_z w32 c.args.exponent) ≡ c.args.exponent = omega (arith, ints) in
     let low : negsuc 9 ≤ℤ c.args.exponent = omega (arith, ints) in
     let high : c.args.exponent ≤ℤ pos 10 = omega (arith, ints) in (

@@ -3,10 +3,10 @@ use Rattle.stores.specs.declared.few_store.Place.TheVariants.{Cell}
 use Rattle.stores.proofs.Few.{stands_once, stands_nowhere, distinct_wiped, sets_wiped, sets_kept, distinct_filled, sets_filled, refused_full}
 use Rattle.stores.proofs.few_store.cells.FewStoreCellStore.set.Goals as goal
 
-pub invariant-of-self : goal.invariant-of-self
-invariant-of-self c =
+pub invariant_of-self : goal.invariant_of-self
+invariant_of-self c =
     let s = c.args.self.now in
-    (distinct_wiped s.places c.args.n c.in-Some.i s.ok (omega arith) c.in-Some.ensures, tt)
+    record { ok = distinct_wiped s.places c.args.n c.in-Some.i s.ok (omega arith) c.in-Some.ensures }
 
 pub returns-in-Some : goal.returns-in-Some
 returns-in-Some c =
@@ -19,10 +19,10 @@ returns-else-kind-eq0 c =
     let one = stands_once s.places c.args.n c.in-Some.i s.ok c.in-Some.ensures in
     sets_kept s.places c.args.n c.args.kind (omega arith) (omega arith) (omega arith)
 
-pub invariant-of-self-in-Some-position : goal.invariant-of-self-in-Some-position
-invariant-of-self-in-Some-position c =
+pub invariant_of-self-in-Some-position : goal.invariant_of-self-in-Some-position
+invariant_of-self-in-Some-position c =
     let s = c.args.self.now in
-    (distinct_filled s.places c.args.n c.in-Some-position.free s.ok (omega arith) c.in-None.ensures c.in-Some-position.ensures, tt)
+    record { ok = distinct_filled s.places c.args.n c.in-Some-position.free s.ok (omega arith) c.in-None.ensures c.in-Some-position.ensures }
 
 pub returns-in-Some-position : goal.returns-in-Some-position
 returns-in-Some-position c =
