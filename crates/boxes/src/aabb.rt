@@ -53,7 +53,7 @@ impl Aabb {
         if clip.far.time < 0.0 {
             None
         } else {
-            Some((clip.near.time.max(0.0), clip.far.time))
+            Some((scalar::max(clip.near.time, 0.0), clip.far.time))
         }
     }
 }

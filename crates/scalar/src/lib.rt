@@ -2,6 +2,7 @@
 #![tactic(auto)]
 
 ghost use Rattle.std.specs.Prelude.{◌≡◌};
+ghost use Rattle.std.specs.Float.{float_min, float_max};
 ghost use Rattle.scalar.specs.Root.{RootOf};
 ghost use Rattle.scalar.specs.Scaled.{Scaled};
 ghost use Rattle.scalar.specs.Single.{NotBelowZero, root};
@@ -20,6 +21,20 @@ pub fn sqrt(x: f32) -> f32
     ensures nearest { RootOf x result }
 {
     root_by_estimate(x)
+}
+
+// The smaller of two numbers, and the number where the other one is a NaN. Of two that compare equal, as 0 and -0, it is the first, where std's may be either.
+pub fn min(x: f32, y: f32) -> f32
+    ensures { result ≡ float_min x y }
+{
+    if x <= y || y.is_nan() { x } else { y }
+}
+
+// The greater of two numbers, likewise.
+pub fn max(x: f32, y: f32) -> f32
+    ensures { result ≡ float_max x y }
+{
+    if y <= x || y.is_nan() { x } else { y }
 }
 
 // A normal value has its root from an estimate that is tested, for speed; any other value has it from std.

@@ -98,7 +98,7 @@ impl<S: CellStore> Chunk<S> {
                 visited: 0,
             };
         }
-        let limit = end.min(max_time_of_impact);
+        let limit = scalar::min(end, max_time_of_impact);
         let first = self.frame.voxel_at_point(ray.point_at(start));
         self.walk_from(first, ray, limit, solid)
     }

@@ -6,18 +6,18 @@ pub returns-then-solid : goal.returns-then-solid
 unfolding box_point
 returns-then-solid c = search rules
 
-pub returns-then-clip-max-time-of-impact : goal.returns-then-clip-max-time-of-impact
+pub returns-then-clip-max_time_of_impact : goal.returns-then-clip-max_time_of_impact
 unfolding box_point
-returns-then-clip-max-time-of-impact c = search rules
+returns-then-clip-max_time_of_impact c = search rules
 
-pub returns-else-clip-max-time-of-impact : goal.returns-else-clip-max-time-of-impact
+pub returns-else-clip-max_time_of_impact : goal.returns-else-clip-max_time_of_impact
 unfolding box_point
-returns-else-clip-max-time-of-impact c = search rules
+returns-else-clip-max_time_of_impact c = search rules
 
-pub returns-then-clip-max-time-of-impact-2 : goal.returns-then-clip-max-time-of-impact-2
+pub returns-then-clip-max_time_of_impact-2 : goal.returns-then-clip-max_time_of_impact-2
 unfolding box_point
-returns-then-clip-max-time-of-impact-2 c = search rules
+returns-then-clip-max_time_of_impact-2 c = search rules
 
-pub returns-else-clip-max-time-of-impact-2 : goal.returns-else-clip-max-time-of-impact-2
+pub returns-else-clip-max_time_of_impact-2 : goal.returns-else-clip-max_time_of_impact-2
 unfolding box_point
-returns-else-clip-max-time-of-impact-2 c = search rules
+returns-else-clip-max_time_of_impact-2 c = search rules

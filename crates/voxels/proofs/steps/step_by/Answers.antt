@@ -2,9 +2,9 @@ use Rattle.std.proofs.Common.{rules}
 use Rattle.voxels.specs.Chunk.{step_from}
 use Rattle.voxels.proofs.steps.step_by.Goals as goal
 
-pub returns-then-all-later : goal.returns-then-all-later
+pub returns-then-all_later : goal.returns-then-all_later
 unfolding step_from
-returns-then-all-later c = search rules
+returns-then-all_later c = search rules
 
 pub returns-in-None : goal.returns-in-None
 unfolding step_from

@@ -2,9 +2,9 @@ use Rattle.std.proofs.Common.{rules}
 use Rattle.boxes.specs.Clip.{clip_ray}
 use Rattle.boxes.proofs.aabb.Aabb.clip_ray_parameters.Goals as goal
 
-pub returns-in-err-clip : goal.returns-in-err-clip
+pub returns-in_err-clip : goal.returns-in_err-clip
 unfolding clip_ray
-returns-in-err-clip c = search rules
+returns-in_err-clip c = search rules
 
 pub returns-then-clip : goal.returns-then-clip
 unfolding clip_ray

@@ -20,29 +20,29 @@ said f kinds r reach solid w v = (
   subst⁻¹ (OnOtherCells f kinds r reach solid) v (chunk_on_other_cells f kinds r reach solid),
 )
 
-pub returns-in-default : goal.returns-in-default
+pub returns-in_default : goal.returns-in_default
 unfolding chunk_cast
-returns-in-default g c =
+returns-in_default g c =
     let f = c.args.self.now.frame in
     let kinds = g.S.CellStore.kinds c.args.self.now.cells in
-    let v : no_hit 0 ≡ chunk_cast f kinds c.args.ray.now c.args.max-time-of-impact c.args.solid = search rules in
-    let s = said f kinds c.args.ray.now c.args.max-time-of-impact c.args.solid (no_hit 0) v in
+    let v : no_hit 0 ≡ chunk_cast f kinds c.args.ray.now c.args.max_time_of_impact c.args.solid = search rules in
+    let s = said f kinds c.args.ray.now c.args.max_time_of_impact c.args.solid (no_hit 0) v in
     record { value = v; few = search rules; named = s.0; others = s.1 }
 
-pub returns-then-start-max-time-of-impact : goal.returns-then-start-max-time-of-impact
+pub returns-then-start-max_time_of_impact : goal.returns-then-start-max_time_of_impact
 unfolding chunk_cast
-returns-then-start-max-time-of-impact g c =
+returns-then-start-max_time_of_impact g c =
     let f = c.args.self.now.frame in
     let kinds = g.S.CellStore.kinds c.args.self.now.cells in
-    let v : no_hit 0 ≡ chunk_cast f kinds c.args.ray.now c.args.max-time-of-impact c.args.solid = search rules in
-    let s = said f kinds c.args.ray.now c.args.max-time-of-impact c.args.solid (no_hit 0) v in
+    let v : no_hit 0 ≡ chunk_cast f kinds c.args.ray.now c.args.max_time_of_impact c.args.solid = search rules in
+    let s = said f kinds c.args.ray.now c.args.max_time_of_impact c.args.solid (no_hit 0) v in
     record { value = v; few = search rules; named = s.0; others = s.1 }
 
-pub walk-from-requires : goal.walk-from-requires
-walk-from-requires g c =
+pub walk_from-requires : goal.walk_from-requires
+walk_from-requires g c =
     let f = c.args.self.now.frame in
-    let p = c.point-at.result in
-    let e = c.voxel-at-point-first.ensures in (
+    let p = c.point_at.result in
+    let e = c.voxel_at_point-first.ensures in (
       omega (arith, ap (λ (k : VoxelKey). k.x) e, place_few f.key.x p.x f.voxel_size.x),
       (
         omega (arith, ap (λ (k : VoxelKey). k.y) e, place_few f.key.y p.y f.voxel_size.y),
@@ -57,11 +57,11 @@ returns g c =
     let kinds = g.S.CellStore.kinds c.args.self.now.cells in
     let r = c.args.ray.now in
     let turn = turn_at f kinds r c.min-limit.result c.args.solid in
-    let v : c.walk-from.result ≡ chunk_cast f kinds r c.args.max-time-of-impact c.args.solid = search rules in
-    let s = said f kinds r c.args.max-time-of-impact c.args.solid c.walk-from.result v in
+    let v : c.walk_from.result ≡ chunk_cast f kinds r c.args.max_time_of_impact c.args.solid = search rules in
+    let s = said f kinds r c.args.max_time_of_impact c.args.solid c.walk_from.result v in
     record {
       value = v;
-      few = subst (λ (w : ChunkCast). w.visited ≤ 25) (sym c.walk-from.ensures) (visited_few turn 25 c.voxel-at-point-first.result);
+      few = subst (λ (w : ChunkCast). w.visited ≤ 25) (sym c.walk_from.ensures) (visited_few turn 25 c.voxel_at_point-first.result);
       named = s.0;
       others = s.1;
     }
