@@ -11,7 +11,7 @@ loop-line-preserved g c =
     let room = c.loop-line.invariant.0 in
     let run = c.loop-line.invariant.1 in
     let before = c.loop-line.outcomes in
-    let o = c.answer-line.result in
+    let o = c.answer_line.result in
     let first = c.in-Some.ensures.first in
     let counted = ap length first in
     let ok : is_ok c.push.result ≡ true = c.push.ensures.succeeds (omega arith) in
@@ -27,7 +27,7 @@ loop-line-preserved g c =
             subst (λ (os : List Outcome). Runs kinds capacity None (lines c.args.text.now) os) (sym (append_assoc run.0 (o ∷ []) later))
             (run.2 (o ∷ later)
             (subst (λ (ls : List (List ℕ)). Runs kinds capacity c.loop-line.session.corner ls (o ∷ later)) (sym first)
-            (c.answer-line.new.self.corner, (c.answer-line.ensures, ran)))),
+            (c.answer_line.new.self.corner, (c.answer_line.ensures, ran)))),
       ),
     )
 
@@ -43,7 +43,7 @@ returns g c =
         run.1,
         subst (λ (os : List Outcome). Runs kinds capacity None (lines c.args.text.now) os) (append-nil run.0)
             (run.2 []
-            (subst (λ (ls : List (List ℕ)). Runs kinds capacity c.loop-line.session.corner ls []) (sym c.in-default.ensures.first) tt)),
+            (subst (λ (ls : List (List ℕ)). Runs kinds capacity c.loop-line.session.corner ls []) (sym c.in_default.ensures.first) tt)),
       );
       refused = λ e. absurd (true≢false e);
     }

@@ -5,7 +5,7 @@ use Rattle.session.proofs.Sights.{sight_is_right}
 use Rattle.session.proofs.session.sight.Goals as goal
 
 pub unreachable-requires : goal.unreachable-requires
-unreachable-requires g c = let n = c.look-cast.ensures.exact.named c.in-Some.hit c.in-Some.is in c.in-default.not-Face _ n.feature
+unreachable-requires g c = let n = c.look-cast.ensures.exact.named c.in-Some.hit c.in-Some.is in c.in_default.not-Face _ n.feature
 
 pub returns-in-None : goal.returns-in-None
 returns-in-None g c =

@@ -6,4 +6,4 @@ use Rattle.sight.proofs.scan.power_of_two.Goals as goal
 pub returns : goal.returns
 returns c =
     let n = nat_abs (to_z w32 (of_z w32 (to_z w32 (of_z w32 c.args.e) +ℤ pos 127))) in
-    c.f32-from-bits-with-nan.ensures ∙ power_by_bits n c.args.e (omega (arith, ints)) (omega (arith, ints)) (omega (arith, ints))
+    c.f32_from_bits_with_nan.ensures ∙ power_by_bits n c.args.e (omega (arith, ints)) (omega (arith, ints)) (omega (arith, ints))

@@ -12,9 +12,9 @@ returns g c =
     let camera = c.args.camera.now in
     let target = c.args.target.now in
     let kinds = g.S.CellStore.kinds s.chunk.cells in
-    let e : c.cast-ray.result ≡ look_at s.exponent s.chunk.frame kinds camera target = search rules in
+    let e : c.cast_ray.result ≡ look_at s.exponent s.chunk.frame kinds camera target = search rules in
     record {
       value = e;
       few = subst⁻¹ (λ (r : ChunkCast). r.visited ≤ 22) e (look_few s.chunk.frame s.exponent s.range (cube_size s) camera target kinds);
-      named = c.cast-ray.ensures.named;
+      named = c.cast_ray.ensures.named;
     }
