@@ -5,7 +5,7 @@ use mathlib.Core.Bool.{beq}
 use native.Mathlib.Nat.{eq_of_mul-eq-mul_right}
 use lib.Signed.{lt_z}
 use lib.IntN.{sub_ℕ, pos-ne-negsuc}
-use lib.Ieee.{Float, nan, inf, fin, binary32, up, down, unlike, round, sum, of_int, to_signed, in_float, lt, le, eq, level}
+use lib.Ieee.{Float, nan, inf, fin, binary32, up, down, unlike, round, sum, of_int, to_signed, in_float, lt, eq, level}
 use lib.Ieee.Fits.{down_pos}
 use lib.Ieee.Exact.{HasValue, round_exact}
 use lib.Ieee.Nearest.{div_same}

@@ -1,5 +1,5 @@
 -- Signs: products and quotients of what is not below zero, negation and size.
-use Rattle.std.proofs.Common.{◌≡◌, ℕ, zero, suc, ◌*◌, ◌<◌, Bool, true, false, cond, not, ◌||◌, T, eqb, ltb, ◌⊎◌, ℤ, pos, sym, refl, ap, ◌∙◌, subst, inl, inr, true≢false, mul-pos, arith, eqb→eq, ltb→lt, lt→ltb}
+use Rattle.std.proofs.Common.{◌≡◌, ℕ, zero, suc, ◌*◌, ◌<◌, Bool, true, false, cond, not, ◌||◌, T, eqb, ◌⊎◌, ℤ, pos, sym, refl, ap, ◌∙◌, inl, inr, true≢false, mul-pos, arith, eqb→eq, ltb→lt, lt→ltb}
 use mathlib.Core.Path.{subst⁻¹}
 use lib.Ieee.{Float, nan, inf, fin, binary32, unlike, up, down, round, neg, mul, div, lt, le, eq, is_nan, of_bits}
 use lib.Ieee.Fits.{up_pos, down_pos, and_l}

@@ -1,5 +1,5 @@
 -- A power of two by its bits, and as a unit and a cell of the grid.
-use Rattle.std.proofs.Common.{◌≡◌, ℕ, suc, ◌+◌, ◌-◌, ◌*◌, ◌/◌, ◌%◌, ◌^◌, ◌<◌, Bool, true, false, cond, leb, ℤ, pos, negsuc, ◌+ℤ◌, ◌-ℤ◌, refl, ap, ◌∙◌, arith, pow_pos, pow-add, ne_eqb}
+use Rattle.std.proofs.Common.{◌≡◌, ℕ, suc, ◌+◌, ◌*◌, ◌/◌, ◌%◌, ◌^◌, ◌<◌, Bool, true, false, cond, leb, ℤ, pos, negsuc, ◌+ℤ◌, ◌-ℤ◌, refl, ap, ◌∙◌, arith, pow_pos, pow-add, ne_eqb}
 use lib.Count.{count_trailing_zeros}
 use lib.Ieee.{nan, inf, fin, binary32, of_bits, of_fields, odd, minus}
 use lib.Ieee.Exact.{HasValue}

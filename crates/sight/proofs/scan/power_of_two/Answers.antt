@@ -1,4 +1,4 @@
-use Rattle.std.proofs.Common.{ℤ, pos, ◌+ℤ◌, nat_abs, ◌∙◌, arith, w32, to_z, of_z}
+use Rattle.std.proofs.Common.{pos, ◌+ℤ◌, nat_abs, ◌∙◌, arith, w32, to_z, of_z}
 use Rattle.std.proofs.lemmas.Int.{ints}
 use Rattle.sight.proofs.Powers.{power_by_bits}
 use Rattle.sight.proofs.scan.power_of_two.Goals as goal
