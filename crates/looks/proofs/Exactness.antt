@@ -20,7 +20,7 @@ use Rattle.sight.specs.Sight.{sight_line, look_at}
 use Rattle.sight.proofs.LookStart.{look_clip, look_walks, look_few}
 use Rattle.looks.specs.Units.{point_of}
 use Rattle.looks.specs.Times.{TimeNear}
-use Rattle.looks.specs.Exact.{number_of, filled_in, NamesFirst, ExactLook}
+use Rattle.looks.specs.Exact.{filled_in, NamesFirst, ExactLook}
 use Rattle.looks.proofs.Units.{in_grid}
 use Rattle.looks.proofs.Stepping.{float_rule, float_rule_chooses}
 use Rattle.looks.proofs.Looking.{SameHit, stops_at, walk_is_look, stops_for, cell_of_hit}
@@ -50,18 +50,14 @@ module _ (f : ChunkFrame) (e : ℤ) (range : T (exponent_fits (Some e))) (size :
       let cell = cell_of_hit f kinds line limit c h same in
       let s = first.entered in
       record {
-        number = number_of c;
+        cell = c;
+        inside = touched_in_grid o t (in_grid camera) (in_grid target) c (s.share, s.entry.touches);
         feature = cell.feature;
-        first_cell = record {
-          cell = c;
-          inside = touched_in_grid o t (in_grid camera) (in_grid target) c (s.share, s.entry.touches);
-          numbered = refl;
-          filled = cell.filled;
-          share = s.share;
-          entry = s.entry;
-          first = first.first;
-          near = subst (TimeNear s.share) cell.time (hit_time_near_entry f e range size camera target c s.share limit cell.box s.entry cell.hits_box);
-        };
+        filled = cell.filled;
+        share = s.share;
+        entry = s.entry;
+        first = first.first;
+        near = subst (TimeNear s.share) cell.time (hit_time_near_entry f e range size camera target c s.share limit cell.box s.entry cell.hits_box);
       }
 
   not_clear : (w : Option RayIntersection) (l : Option Cell) → SameHit f kinds line limit w l → Answers o t (filled_in kinds) l → (c : Cell) → Crosses o t c → filled_in kinds c ≡ true → is_some w ≡ true

@@ -21,6 +21,24 @@ filled_number kinds (Some n) = stops (kinds n)
 abbrev pub filled_in : (ℕ → ℕ) → Cell → Bool
 filled_in kinds c = filled_number kinds (cell_number (key_of_cell c))
 
+-- the hit names a filled cell, which the line enters no later than it touches any filled cell that it crosses
+pub record NamesFirst (o t : Point) (id : ℕ) (kinds : ℕ → ℕ) (h : RayIntersection) : Type 0 where
+  pub cell : Cell
+  pub inside : (i : Axis) → index cell i ≤ 7
+  pub feature : h.feature ≡ Face (id * 512 + number_of cell)
+  pub filled : stops (kinds (number_of cell)) ≡ true
+  pub share : Share
+  pub entry : Entry o t cell share
+  pub first : (c : Cell) → Crosses o t c → filled_in kinds c ≡ true → (r : Share) → TouchesAt o t c r → NoLater share r
+  pub near : TimeNear share h.time_of_impact
+
+pub record ExactLook (o t : Point) (id : ℕ) (kinds : ℕ → ℕ) (r : ChunkCast) : Type 0 where
+  -- a line that crosses the inside of a filled cell is not clear
+  pub blocked : (c : Cell) → Crosses o t c → filled_in kinds c ≡ true → is_some r.hit ≡ true
+  pub named : (h : RayIntersection) → r.hit ≡ Some h → NamesFirst o t id kinds h
+  pub few : r.visited ≤ 22
+
+-- ---- a cell and a time that are read out
 -- the cell with that number is filled, the line enters it no later than it touches any filled cell that it crosses, and the time is near that entry
 pub record FirstCell (o t : Point) (kinds : ℕ → ℕ) (number : ℕ) (time : Float) : Type 0 where
   pub cell : Cell
@@ -31,18 +49,6 @@ pub record FirstCell (o t : Point) (kinds : ℕ → ℕ) (number : ℕ) (time : 
   pub entry : Entry o t cell share
   pub first : (c : Cell) → Crosses o t c → filled_in kinds c ≡ true → (r : Share) → TouchesAt o t c r → NoLater share r
   pub near : TimeNear share time
-
--- the hit names such a cell, by the face id * 512 + its number
-pub record NamesFirst (o t : Point) (id : ℕ) (kinds : ℕ → ℕ) (h : RayIntersection) : Type 0 where
-  pub number : ℕ
-  pub feature : h.feature ≡ Face (id * 512 + number)
-  pub first_cell : FirstCell o t kinds number h.time_of_impact
-
-pub record ExactLook (o t : Point) (id : ℕ) (kinds : ℕ → ℕ) (r : ChunkCast) : Type 0 where
-  -- a line that crosses the inside of a filled cell is not clear
-  pub blocked : (c : Cell) → Crosses o t c → filled_in kinds c ≡ true → is_some r.hit ≡ true
-  pub named : (h : RayIntersection) → r.hit ≡ Some h → NamesFirst o t id kinds h
-  pub few : r.visited ≤ 22
 
 -- ---- the look on other cells
 -- of the cells that the line touches, the same are filled

@@ -34,6 +34,11 @@ kinds_in kinds s = kinds s.chunk.cells
 abbrev pub Looked : {S : Type 0} → (S → ℕ → ℕ) → Scan S → IVector → IVector → Outcome → Type 0
 Looked kinds s camera target o = (p q : GridPoint) → Stands p camera → Stands q target → o ≡ seen (look_at s.exponent s.chunk.frame (kinds_in kinds s) p q)
 
+-- where it is called clear, the exact line between the two points crosses the inside of no filled cell
+abbrev pub ClearIsRight : {S : Type 0} → (S → ℕ → ℕ) → Scan S → IVector → IVector → Outcome → Type 0
+ClearIsRight kinds s camera target o =
+    (visited : ℕ) → o ≡ Clear visited → (p q : GridPoint) → Stands p camera → Stands q target → (c : Cell) → Crosses (point_of p) (point_of q) c → filled_in (kinds_in kinds s) c ≡ false
+
 -- what an outcome says of the exact line from a to b. Clear: the line crosses the inside of no filled cell.
 -- Blocked: that cell is filled, and the line enters it, near that time, no later than it touches any filled cell that it crosses.
 abbrev pub RightOf : Point → Point → (ℕ → ℕ) → Outcome → Type 0
@@ -53,6 +58,7 @@ Right kinds s camera target o = (p q : GridPoint) → Stands p camera → Stands
 pub record Sees {S : Type 0} (kinds : S → ℕ → ℕ) (s : Scan S) (camera target : IVector) (o : Outcome) : Type 0 where
   pub refused : (grid_fits camera && grid_fits target) ≡ false → o ≡ Refused PointOutside
   pub looked : Looked kinds s camera target o
+  pub clear : ClearIsRight kinds s camera target o
   pub right : Right kinds s camera target o
 
 -- ---- a room

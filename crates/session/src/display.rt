@@ -1,38 +1,9 @@
 // An outcome in words that can be read out.
-ghost use Rattle.std.specs.Prelude.{◌≡◌, Some};
-ghost use Rattle.session.specs.Texts.{thousandths, thousandths_text, visited_text, cell_text, outcome_text};
+ghost use Rattle.std.specs.Prelude.{Some};
+ghost use Rattle.session.specs.Texts.{visited_text, cell_text, outcome_text};
 
 use crate::outcome::Outcome;
 use std::fmt;
-
-// A share of the way in thousandths.
-#[derive(Clone, Copy)]
-struct Thousandths {
-    count: u32,
-}
-
-impl Thousandths {
-    // The nearest to a time.
-    fn of(time: f32) -> Thousandths
-        ensures { result.count ≡ thousandths time }
-    {
-        Thousandths {
-            count: std::num::saturating_f32_to_u32((time * 1000.0).round()),
-        }
-    }
-}
-
-impl fmt::Display for Thousandths {
-    ghost output = { λ t. Some (thousandths_text t.count) };
-
-    fn fmt<W: fmt::Write>(&self, f: &mut fmt::Formatter<W>) -> fmt::Result {
-        let whole = self.count / 1000;
-        let first = self.count / 100 % 10;
-        let second = self.count / 10 % 10;
-        let third = self.count % 10;
-        write!(f, "{whole}.{first}{second}{third}")
-    }
-}
 
 #[derive(Clone, Copy)]
 struct Visited {
@@ -69,7 +40,7 @@ impl fmt::Display for NumberedCell {
 }
 
 impl fmt::Display for Outcome {
-    ghost output = { λ o. Some (outcome_text o) };
+    ghost output = { outcome_text };
 
     fn fmt<W: fmt::Write>(&self, f: &mut fmt::Formatter<W>) -> fmt::Result {
         match self {
@@ -85,9 +56,8 @@ impl fmt::Display for Outcome {
                 visited,
             } => {
                 let blocking = NumberedCell { number: *cell };
-                let share = Thousandths::of(*time);
                 let cells = Visited { count: *visited };
-                write!(f, "blocked by {blocking}, {share} of the way; {cells}")
+                write!(f, "blocked by {blocking}, {time} of the way; {cells}")
             }
             Outcome::Refused(refusal) => {
                 let number = refusal.number();

@@ -1,11 +1,12 @@
 // A whole setup file.
-ghost use Rattle.std.specs.Prelude.{◌≡◌, ◌-◌, vec_len, vec_capacity};
+ghost use Rattle.std.specs.Prelude.{◌≡◌, ◌-◌, IfOk, None, vec_len, vec_capacity};
 ghost use Rattle.setup.specs.Grammar.{lines};
-ghost use Rattle.session.specs.Runs.{CarriesOut};
+ghost use Rattle.session.specs.Runs.{Runs, CarriesOut};
 
 use crate::outcome::Outcome;
 use crate::session::Session;
 use setup::{count_lines, split_line};
+use std::alloc::{AllocError, Global};
 use stores::cell_store::CellStore;
 
 // There is no room for an outcome of each line.
@@ -14,7 +15,7 @@ pub struct NoRoom;
 
 // Carries out every line of a text, in order, on a store of cells of the kind S, and adds an outcome for each line.
 // It takes no memory: where the room reserved in `outcomes` does not suffice for all lines, none is carried out.
-pub fn run<S: CellStore + Drop>(text: &[u8], outcomes: &mut Vec<Outcome>) -> Result<(), NoRoom>
+pub fn run_into<S: CellStore + Drop>(text: &[u8], outcomes: &mut Vec<Outcome>) -> Result<(), NoRoom>
     ensures { CarriesOut S.CellStore.kinds S.CellStore.capacity (lines text.now) (vec_capacity outcomes.old - vec_len outcomes.old) outcomes.old.items outcomes.new.items result }
 {
     if outcomes.capacity() - outcomes.len() < count_lines(text) {
@@ -30,4 +31,16 @@ pub fn run<S: CellStore + Drop>(text: &[u8], outcomes: &mut Vec<Outcome>) -> Res
         rest = after;
     }
     Ok(())
+}
+
+// The same on a new list of outcomes. Its one error is want of memory; that it does not say so needlessly is seen by running, not proved.
+pub fn run<S: CellStore + Drop>(heap: Global, text: &[u8]) -> Result<Vec<Outcome>, AllocError>
+    ensures { IfOk result (λ v. Runs S.CellStore.kinds S.CellStore.capacity None (lines text.now) v.items) }
+{
+    let mut outcomes = Vec::with_capacity(heap, count_lines(text))?;
+    let Ok(()) = run_into::<S>(text, &mut outcomes) else {
+        // room for an outcome of each line is reserved
+        unreachable()
+    };
+    Ok(outcomes)
 }

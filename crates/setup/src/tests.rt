@@ -52,11 +52,11 @@ fn bad_lines(rt: HostRuntime) {
 #[test]
 fn lines_of_a_text(rt: HostRuntime) -> Result<(), Fail> {
     let (first, rest) = split_line(b"mark 1 2 3\n\nwipe 1 2 3\n").ok_or("no first line")?;
-    assert!(rt; first == b"mark 1 2 3");
+    assert_eq!(rt; first, b"mark 1 2 3".as_slice());
     let (second, rest) = split_line(rest).ok_or("no second line")?;
     assert!(rt; second.is_empty());
     let (third, rest) = split_line(rest).ok_or("no third line")?;
-    assert!(rt; third == b"wipe 1 2 3");
+    assert_eq!(rt; third, b"wipe 1 2 3".as_slice());
     assert!(rt; split_line(rest).is_none());
     Ok(())
 }
@@ -68,14 +68,18 @@ fn texts(rt: HostRuntime) -> Result<(), Fail> {
         camera: IVector { x: 1, y: -2, z: 3 },
         target: IVector { x: 0, y: 7, z: 40 },
     };
-    assert!(rt; statement.to_string(heap)? == "sight 1 -2 3 0 7 40");
-    assert!(rt; Expected::Keyword.to_string(heap)? == "expected room, mark, wipe or sight");
-    assert!(rt;
-        Expected::Numbers(Keyword::Mark).to_string(heap)? == "expected 3 numbers after mark"
+    assert_eq!(rt; statement.to_string(heap)?.as_str(), "sight 1 -2 3 0 7 40");
+    assert_eq!(rt;
+        Expected::Keyword.to_string(heap)?.as_str(),
+        "expected room, mark, wipe or sight"
     );
-    assert!(rt;
-        Expected::WholeNumber(2).to_string(heap)?
-            == "expected a whole number of at most nine digits as number 2"
+    assert_eq!(rt;
+        Expected::Numbers(Keyword::Mark).to_string(heap)?.as_str(),
+        "expected 3 numbers after mark"
+    );
+    assert_eq!(rt;
+        Expected::WholeNumber(2).to_string(heap)?.as_str(),
+        "expected a whole number of at most nine digits as number 2"
     );
     Ok(())
 }

@@ -4,7 +4,6 @@
 use session::outcome::Outcome;
 use session::run::run;
 use session::tally::tally_of;
-use setup::count_lines;
 use std::io::Read;
 use std::{env, fs, io};
 use stores::cell_store::CellStore;
@@ -36,11 +35,7 @@ fn print_outcome(rt: &HostRuntime, line: usize, sight: usize, outcome: &Outcome)
 
 fn check(rt: &HostRuntime) -> anyhow::Result<()> {
     let text = setup_text(rt)?;
-    let mut outcomes = Vec::with_capacity(rt.alloc(), count_lines(text.as_slice()))?;
-    let Ok(()) = run::<TableStore>(text.as_slice(), &mut outcomes) else {
-        // room for an outcome of each line is reserved
-        unreachable()
-    };
+    let outcomes = run::<TableStore>(rt.alloc(), text.as_slice())?;
     let mut line = 0usize;
     let mut sights = 0usize;
     for outcome in outcomes.as_slice() {

@@ -1,7 +1,7 @@
 use Rattle.std.proofs.Common.{◌%◌, rules}
 use Rattle.session.specs.declared.outcome.Outcome.TheVariants.{Clear, Blocked}
 use Rattle.session.specs.Answers.{Looked}
-use Rattle.session.proofs.Sights.{sight_is_right}
+use Rattle.session.proofs.Sights.{clear_is_right, sight_is_right}
 use Rattle.session.proofs.session.sight.Goals as goal
 
 pub unreachable-requires : goal.unreachable-requires
@@ -13,7 +13,7 @@ returns-in-None g c =
     let s = c.args.scan.now in
     let o = Clear c.look-cast.result.visited in
     let looked : Looked kinds s c.args.camera c.args.target o = search rules in
-    record { refused = search rules; looked = looked; right = sight_is_right kinds s c.args.camera c.args.target o looked }
+    record { refused = search rules; looked = looked; clear = clear_is_right kinds s c.args.camera c.args.target o looked; right = sight_is_right kinds s c.args.camera c.args.target o looked }
 
 pub returns-in-Face : goal.returns-in-Face
 returns-in-Face g c =
@@ -21,4 +21,4 @@ returns-in-Face g c =
     let s = c.args.scan.now in
     let o = Blocked (c.in-Face.face % 512) c.in-Some.hit.time_of_impact c.look-cast.result.visited in
     let looked : Looked kinds s c.args.camera c.args.target o = search rules in
-    record { refused = search rules; looked = looked; right = sight_is_right kinds s c.args.camera c.args.target o looked }
+    record { refused = search rules; looked = looked; clear = clear_is_right kinds s c.args.camera c.args.target o looked; right = sight_is_right kinds s c.args.camera c.args.target o looked }

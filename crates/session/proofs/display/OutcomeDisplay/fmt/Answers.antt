@@ -15,7 +15,7 @@ returns-in-Clear-clause-writes g c = rw c.in-Clear.is c.write-in-Clear.ensures.w
 
 pub returns-in-Blocked-clause-writes : goal.returns-in-Blocked-clause-writes
 unfolding outcome_text
-returns-in-Blocked-clause-writes g c = rw (c.in-Blocked.is, ← c.of-share.ensures) c.write-in-Blocked.ensures.writes
+returns-in-Blocked-clause-writes g c = rw c.in-Blocked.is c.write-in-Blocked.ensures.writes
 
 pub returns-in-Refused-clause-writes : goal.returns-in-Refused-clause-writes
 unfolding outcome_text

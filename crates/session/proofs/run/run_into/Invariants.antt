@@ -2,7 +2,7 @@ use Rattle.std.proofs.Common.{◌≡◌, ◌+◌, ◌≤◌, List, ◌++◌, len
 use Rattle.setup.specs.Grammar.{lines}
 use Rattle.session.specs.declared.outcome.Outcome.{Outcome}
 use Rattle.session.specs.Runs.{Runs}
-use Rattle.session.proofs.run.run.Given as goal
+use Rattle.session.proofs.run.run_into.Given as goal
 
 -- there is room for the lines that are left; and whatever they come to, it carries on what the lines so far came to
 abbrev pub invariant-loop-line : goal.invariant-loop-line
