@@ -1,7 +1,6 @@
 -- What a sight line's outcome says is right of the exact line.
 use Rattle.std.proofs.Common.{◌≡◌, ℕ, ◌+◌, ◌*◌, ◌%◌, ◌<◌, Bool, true, false, Some, None, Option, sym, refl, ap, ◌∙◌, subst, true≢false, arith}
 use mathlib.Core.Path.{subst⁻¹}
-use lib.Ieee.{Float}
 use Rattle.math.specs.declared.IVector.{IVector}
 use Rattle.query.specs.declared.ray.RayIntersection.{RayIntersection}
 use Rattle.voxels.specs.Chunk.{stops}
