@@ -2,7 +2,7 @@
 use Rattle.std.proofs.Common.{◌≡◌, ℕ, suc, ◌+◌, ◌^◌, ◌<◌, Bool, true, false, ◌&&◌, leb, List, [], ◌∷◌, ◌++◌, map, length, get_or, ℤ, pos, negsuc, neg_ℤ, Some, Ok, decimal, refl, ap, ◌∙◌, arith}
 use Rattle.std.specs.Option.{option_map}
 use Rattle.std.specs.Fmt.{signed_decimal}
-use Rattle.std.specs.List.{prefix_len, AllByRecursion as All}
+use Rattle.std.specs.List.{prefix_len, AllByRecursion}
 use Rattle.std.specs.Str.{all_ascii_digits}
 use Rattle.std.proofs.lemmas.Fmt.{digits_decimal, digits_value-decimal, decimal_nonempty, length-decimal-le}
 use Rattle.std.proofs.lemmas.List.{take_at, drop_at}
@@ -44,7 +44,7 @@ whole_number-signed (pos n) h =
 whole_number-signed (negsuc n) h =
     whole_number-minus (45 ∷ decimal (suc n)) (omega arith) refl ∙ ap (option_map (λ k. neg_ℤ (pos k))) (natural_decimal (suc n) h)
 
-whole_numbers-signed : (zs : List ℤ) (place : ℕ) → All Short zs → whole_numbers place (map signed_decimal zs) ≡ Ok zs
+whole_numbers-signed : (zs : List ℤ) (place : ℕ) → AllByRecursion Short zs → whole_numbers place (map signed_decimal zs) ≡ Ok zs
 whole_numbers-signed [] place h = refl
 whole_numbers-signed (z ∷ zs) place h =
     ap (λ o. put o (whole_numbers (place + 1) (map signed_decimal zs)) place) (whole_number-signed z h.0)
@@ -102,12 +102,12 @@ spaced_ends : (zs : List ℤ) → prefix_len (other blank) (spaced zs) ≡ 0
 spaced_ends [] = refl
 spaced_ends (z ∷ zs) = refl
 
-uncommented_spaced : (zs : List ℤ) → All Short zs → uncommented (spaced zs) ≡ spaced zs
+uncommented_spaced : (zs : List ℤ) → AllByRecursion Short zs → uncommented (spaced zs) ≡ spaced zs
 uncommented_spaced [] h = refl
 uncommented_spaced (z ∷ zs) h =
     ap (λ l. 32 ∷ l) (uncommented_solid (signed_decimal z) (spaced zs) (solid_signed z h.0) ∙ ap (λ l. signed_decimal z ++ l) (uncommented_spaced zs h.1))
 
-words_spaced : (zs : List ℤ) → All Short zs → words (spaced zs) ≡ map signed_decimal zs
+words_spaced : (zs : List ℤ) → AllByRecursion Short zs → words (spaced zs) ≡ map signed_decimal zs
 unfolding words
 words_spaced [] h = refl
 words_spaced (z ∷ zs) h =
@@ -134,7 +134,7 @@ keyword_of-name Mark = refl
 keyword_of-name Wipe = refl
 keyword_of-name Sight = refl
 
-words_written : (k : Keyword) (zs : List ℤ) → All Short zs → words (uncommented (name k ++ spaced zs)) ≡ name k ∷ map signed_decimal zs
+words_written : (k : Keyword) (zs : List ℤ) → AllByRecursion Short zs → words (uncommented (name k ++ spaced zs)) ≡ name k ∷ map signed_decimal zs
 words_written k zs h =
     ap words (uncommented_solid (name k) (spaced zs) (solid_name k) ∙ ap (λ l. name k ++ l) (uncommented_spaced zs h))
     ∙ words_solid (name k) (spaced zs) (solid_name k) (name_some k) (spaced_ends zs)
@@ -152,7 +152,7 @@ stated_numbers (statement.Mark c) = refl
 stated_numbers (statement.Wipe c) = refl
 stated_numbers (statement.Sight c t) = refl
 
-pub reads_back : (s : Statement) → All Short (numbers s) → line_meaning (written s) ≡ Says s
+pub reads_back : (s : Statement) → AllByRecursion Short (numbers s) → line_meaning (written s) ≡ Says s
 reads_back s h =
     ap meaning (words_written (keyword s) (numbers s) h)
     ∙ ap (λ o. meaning_after o (map signed_decimal (numbers s))) (keyword_of-name (keyword s))
@@ -161,5 +161,5 @@ reads_back s h =
     ∙ ap Says (stated_numbers s)
 
 -- the same of a line that is what is written, and of an answer that is its meaning
-pub says_back : (line : List ℕ) (r : Line) → r ≡ line_meaning line → (s : Statement) → All Short (numbers s) → line ≡ written s → r ≡ Says s
+pub says_back : (line : List ℕ) (r : Line) → r ≡ line_meaning line → (s : Statement) → AllByRecursion Short (numbers s) → line ≡ written s → r ≡ Says s
 says_back line r value s h e = value ∙ ap line_meaning e ∙ reads_back s h

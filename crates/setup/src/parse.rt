@@ -1,7 +1,7 @@
 // Reads a line into what it says.
 ghost use Rattle.std.specs.Prelude.{◌≡◌};
 ghost use Rattle.std.specs.Str.{bytes_eq};
-ghost use Rattle.std.specs.List.{AllByRecursion as All};
+ghost use Rattle.std.specs.List.{AllByRecursion};
 ghost use Rattle.setup.specs.Grammar.{keyword_of, stated, line_meaning};
 ghost use Rattle.setup.specs.Texts.{Short, numbers, written};
 
@@ -68,7 +68,7 @@ fn statement_of(keyword: Keyword, numbers: [i32; MOST]) -> Statement
 // What the line says.
 pub fn parse_line(line: &[u8]) -> Line
     ensures value { result ≡ line_meaning line.now }
-    ensures reads_back { (s : Statement) → All Short (numbers s) → line.now ≡ written s → result ≡ Line.Says s }
+    ensures reads_back { (s : Statement) → AllByRecursion Short (numbers s) → line.now ≡ written s → result ≡ Line.Says s }
 {
     let Some((word, rest)) = split_word(without_comment(line)) else {
         return Line::Blank;
