@@ -87,8 +87,8 @@ abbrev pub floor_triangle : Shape
 floor_triangle = Triangle (record { a = origin; b = vector one zero zero; c = vector zero one zero })
 
 -- y at most 0
-abbrev pub ground : Shape
-ground = HalfSpace (record { normal = vector zero one zero })
+abbrev pub ground_half_space : Shape
+ground_half_space = HalfSpace (record { normal = vector zero one zero })
 
 -- from the triangle's plane, on which it starts at (x, y)
 abbrev pub up_from : Float → Float → Ray
@@ -133,7 +133,7 @@ pub record WorkedRays : Type 0 where
   pub from_the_triangle : shape_cast floor_triangle (up_from quarter quarter) one true ≡ Some (hit minus_zero (vector minus_zero minus_zero minus_one) (Face 1))
   pub beside_the_triangle : shape_cast floor_triangle (up_from minus_quarter minus_quarter) one true ≡ None
   -- a ray along the plane never meets it
-  pub along_the_ground : shape_cast ground under_ground infinity false ≡ None
+  pub along_the_ground : shape_cast ground_half_space under_ground infinity false ≡ None
   -- the fourth cell along x
   pub fourth_cell : look 3 four_cells_along ≡ record { hit = Some (hit five_eighths leftward (Face 3)); visited = 4 }
   -- over an edge between cells the walk steps along x first, so of the two cells beside the edge only that along x is seen

@@ -14,7 +14,7 @@ use stores::cell_store::CellStore;
 pub struct NoRoom;
 
 // Carries out every line of a text, in order, on a store of cells of the kind S, and adds an outcome for each line.
-// It takes no memory: where the room reserved in `outcomes` does not suffice for all lines, none is carried out.
+// Want of memory is no error of it: where the room reserved in `outcomes` does not suffice for all lines, none is carried out.
 pub fn run_into<S: CellStore + Drop>(text: &[u8], outcomes: &mut Vec<Outcome>) -> Result<(), NoRoom>
     ensures { CarriesOut S.CellStore.kinds S.CellStore.capacity (lines text.now) (vec_capacity outcomes.old - vec_len outcomes.old) outcomes.old.items outcomes.new.items result }
 {
