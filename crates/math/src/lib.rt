@@ -7,7 +7,7 @@ pub mod rotation;
 ghost use Rattle.std.specs.Prelude.{◌≡◌};
 ghost use Rattle.math.specs.Vectors.{vector, zero_vector, component, along, vadd, vsub, vscale, vneg, dot, cross, normalized, min_position, to_i32, floor};
 
-#[derive(Clone, Copy)]
+#[derive(Clone, Copy, PartialEq, Eq, Debug)]
 pub enum Axis {
     X,
     Y,
@@ -15,7 +15,7 @@ pub enum Axis {
 }
 
 // Three floats: a point or a direction.
-#[derive(Clone, Copy)]
+#[derive(Clone, Copy, PartialEq, Debug)]
 pub struct Vector {
     pub x: f32,
     pub y: f32,

@@ -11,14 +11,14 @@ use math::Vector;
 use math::pose::Pose;
 
 // The points origin + time * dir, for times not below zero. `dir` has any length.
-#[derive(Clone, Copy)]
+#[derive(Clone, Copy, PartialEq, Debug)]
 pub struct Ray {
     pub origin: Vector,
     pub dir: Vector,
 }
 
 // Where a ray hits: the time along the ray, the normal there and the part of the shape.
-#[derive(Clone, Copy)]
+#[derive(Clone, Copy, PartialEq, Debug)]
 pub struct RayIntersection {
     pub time_of_impact: f32,
     pub normal: Vector,
