@@ -1,10 +1,11 @@
 -- Vectors of three floats: each operation rounds once, in the order written.
-use Rattle.std.specs.Prelude.{cond, ℤ, Float}
+use Rattle.std.specs.Prelude.{Bool, cond, ◌&&◌, ℤ, int_le, Float}
 use Rattle.std.specs.Float.{binary32}
 use Rattle.std.specs.Float.Ieee.{neg, lt, to_signed}
 use Rattle.std.specs.Float as Floats
 use Rattle.scalar.specs.Single.{plus, minus, times, over, root, zero, one}
 use Rattle.math.specs.declared.Vector.{Vector}
+use Rattle.math.specs.declared.IVector.{IVector}
 use Rattle.math.specs.declared.Axis.{Axis}
 use Rattle.math.specs.declared.Axis.TheVariants.{X, Y, Z}
 
@@ -60,3 +61,11 @@ to_i32 a = to_signed 31 a
 
 abbrev pub floor : Float → Float
 floor a = Floats.floor binary32 a
+
+-- ---- whole numbers: from the least to the most, both ends among them
+abbrev pub between : ℤ → ℤ → ℤ → Bool
+between least most z = int_le least z && int_le z most
+
+-- all three numbers are
+abbrev pub all_between : ℤ → ℤ → IVector → Bool
+all_between least most v = between least most v.x && (between least most v.y && between least most v.z)

@@ -5,7 +5,7 @@ pub mod pose;
 pub mod rotation;
 
 ghost use Rattle.std.specs.Prelude.{◌≡◌};
-ghost use Rattle.math.specs.Vectors.{vector, zero_vector, component, along, vadd, vsub, vscale, vneg, dot, cross, normalized, min_position, to_i32, floor};
+ghost use Rattle.math.specs.Vectors.{vector, zero_vector, component, along, vadd, vsub, vscale, vneg, dot, cross, normalized, min_position, between, all_between, to_i32, floor};
 
 #[derive(Clone, Copy, PartialEq, Eq, Debug)]
 pub enum Axis {
@@ -129,6 +129,7 @@ impl Vector {
     }
 
     // The axis of the least component, the first of equal ones. A NaN is never less.
+    #[tactic(auto, unfolding(crate::specs::Vectors::min_position))]
     pub fn min_position(self) -> Axis
         ensures { result ≡ min_position self }
     {
@@ -139,6 +140,23 @@ impl Vector {
         } else {
             Axis::X
         }
+    }
+}
+
+fn is_between<const LEAST: i32, const MOST: i32>(i: i32) -> bool
+    ensures { result ≡ between LEAST MOST i }
+{
+    (LEAST..=MOST).contains(&i)
+}
+
+impl IVector {
+    // Whether all three are from LEAST to MOST.
+    pub fn all_between<const LEAST: i32, const MOST: i32>(self) -> bool
+        ensures { result ≡ all_between LEAST MOST self }
+    {
+        is_between::<LEAST, MOST>(self.x)
+            && is_between::<LEAST, MOST>(self.y)
+            && is_between::<LEAST, MOST>(self.z)
     }
 }
 

@@ -6,13 +6,14 @@ ghost use Rattle.query.specs.FirstHit.{earlier, first_among, hits_of, Earliest};
 use crate::ray::{Ray, RayCast, RayIntersection};
 
 // The index of an element in the list, and its hit.
-#[derive(Clone, Copy)]
+#[derive(Clone, Copy, PartialEq, Debug)]
 pub struct FirstHit {
     pub index: usize,
     pub hit: RayIntersection,
 }
 
 // The best so far, or the element at `index` where it is hit earlier.
+#[tactic(auto, unfolding(crate::specs::FirstHit::earlier))]
 fn earlier(best: Option<FirstHit>, index: usize, found: Option<RayIntersection>) -> Option<FirstHit>
     ensures { result ≡ earlier best index found }
 {
@@ -42,8 +43,8 @@ pub fn first_hit<E: RayCast>(
     ensures earliest { NotBelowZero max_time_of_impact → Earliest (hits_of (λ e. E.casts e ray.now max_time_of_impact solid) things.now) (length things.now) result }
 {
     let mut best: Option<FirstHit> = None;
-    for i in 0..things.len() {
-        let found = things[i].cast_local_ray_and_get_normal(ray, max_time_of_impact, solid);
+    for (i, thing) in things.iter().enumerate() {
+        let found = thing.cast_local_ray_and_get_normal(ray, max_time_of_impact, solid);
         best = earlier(best, i, found);
     }
     best

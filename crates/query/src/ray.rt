@@ -80,9 +80,7 @@ impl RayIntersection {
             feature,
         }
     }
-}
 
-impl RayIntersection {
     // The hit of a shape's own frame, in the world: the normal turns, time and feature stay.
     pub fn transform_by(&self, m: &Pose) -> RayIntersection
         ensures { result ≡ world_hit m.now self.now }

@@ -14,10 +14,9 @@ pub fn cast_local_ray<T: RayCast>(
 ) -> Option<f32>
     ensures { result ≡ time_of (T.casts thing.now ray.now max_time_of_impact solid) }
 {
-    match thing.cast_local_ray_and_get_normal(ray, max_time_of_impact, solid) {
-        None => None,
-        Some(hit) => Some(hit.time_of_impact),
-    }
+    thing
+        .cast_local_ray_and_get_normal(ray, max_time_of_impact, solid)
+        .map(|hit| hit.time_of_impact)
 }
 
 // Whether the solid thing is hit.
@@ -55,11 +54,9 @@ pub fn cast_ray_and_get_normal<T: RayCast>(
 ) -> Option<RayIntersection>
     ensures { result ≡ world_hit_of m.now (T.casts thing.now (local_ray m.now ray.now) max_time_of_impact solid) }
 {
-    let local = ray.inverse_transform_by(m);
-    match thing.cast_local_ray_and_get_normal(&local, max_time_of_impact, solid) {
-        None => None,
-        Some(hit) => Some(hit.transform_by(m)),
-    }
+    thing
+        .cast_local_ray_and_get_normal(&ray.inverse_transform_by(m), max_time_of_impact, solid)
+        .map(|hit| hit.transform_by(m))
 }
 
 // Whether the solid thing in a pose is hit.

@@ -6,29 +6,24 @@ ghost use Rattle.refusals.specs.Refusals.{refusal_number, refusal_text};
 
 use std::fmt;
 
+// Each with the number by which support staff and the app know it.
 #[derive(Clone, Copy, PartialEq, Eq, Debug)]
 pub enum Refusal {
     // A grid coordinate is outside 0..=1023.
-    PointOutside,
+    PointOutside = 1,
     // A cell coordinate is outside 0..=7.
-    CellOutside,
+    CellOutside = 2,
     // The store has no room for another filled cell.
-    StoreFull,
+    StoreFull = 8,
     // A size exponent outside -10..=10, a chunk key beyond 4096 either way, an id above 8388607, or a cell size that is not finite or not above zero.
-    BadMaking,
+    BadMaking = 12,
 }
 
 impl Refusal {
-    // The number by which support staff and the app know it.
     pub fn number(self) -> u8
         ensures { result ≡ refusal_number self }
     {
-        match self {
-            Refusal::PointOutside => 1,
-            Refusal::CellOutside => 2,
-            Refusal::StoreFull => 8,
-            Refusal::BadMaking => 12,
-        }
+        self as u8
     }
 }
 

@@ -3,15 +3,9 @@ ghost use Rattle.stores.specs.Few.{DistinctCells};
 
 pub mod cells;
 
-// Free, or with the number of a filled cell.
-#[derive(Clone, Copy, PartialEq, Eq)]
-pub enum Place {
-    Free,
-    Cell(u16),
-}
-
+// A place has the number of a filled cell, or none.
 #[derive(Drop)]
 pub struct FewStore {
-    places: [Place; 64],
+    places: [Option<u16>; 64],
     ghost ok: { DistinctCells places },
 }

@@ -1,20 +1,15 @@
 // The few store as a cell store.
 ghost use Rattle.stores.specs.Few.{FirstAt, few_kinds};
 
-use super::{FewStore, Place};
+use super::FewStore;
 use crate::cell_store::{CellStore, StoreRefusal};
 
 impl FewStore {
     // Where the first such place is.
-    fn position(&self, wanted: Place) -> Option<usize>
+    fn position(&self, wanted: Option<u16>) -> Option<usize>
         ensures { FirstAt self.now.places wanted result }
     {
-        for i in 0..64 {
-            if self.places[i] == wanted {
-                return Some(i);
-            }
-        }
-        None
+        self.places.iter().position(|place| *place == wanted)
     }
 }
 
@@ -28,13 +23,11 @@ impl CellStore for FewStore {
     ghost outside = { λ s n h. s.ok.2 n h };
 
     fn new() -> FewStore {
-        FewStore {
-            places: [Place::Free; 64],
-        }
+        FewStore { places: [None; 64] }
     }
 
     fn read(&self, n: u16) -> u8 {
-        match self.position(Place::Cell(n)) {
+        match self.position(Some(n)) {
             Some(_) => 1,
             None => 0,
         }
@@ -44,10 +37,10 @@ impl CellStore for FewStore {
         if n > 511 || kind > 1 {
             return Err(StoreRefusal::Bad);
         }
-        match self.position(Place::Cell(n)) {
-            Some(i) if kind == 0 => self.places[i] = Place::Free,
-            None if kind == 1 => match self.position(Place::Free) {
-                Some(free) => self.places[free] = Place::Cell(n),
+        match self.position(Some(n)) {
+            Some(i) if kind == 0 => self.places[i] = None,
+            None if kind == 1 => match self.position(None) {
+                Some(free) => self.places[free] = Some(n),
                 None => return Err(StoreRefusal::Full),
             },
             _ => {}

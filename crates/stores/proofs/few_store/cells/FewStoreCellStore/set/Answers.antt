@@ -1,5 +1,4 @@
-use Rattle.std.proofs.Common.{arith}
-use Rattle.stores.specs.declared.few_store.Place.TheVariants.{Cell}
+use Rattle.std.proofs.Common.{Some, arith}
 use Rattle.stores.proofs.Few.{stands_once, stands_nowhere, distinct_wiped, sets_wiped, sets_kept, distinct_filled, sets_filled, refused_full}
 use Rattle.stores.proofs.few_store.cells.FewStoreCellStore.set.Goals as goal
 
@@ -37,5 +36,5 @@ returns-in-None-position c =
 pub returns-else-kind-eq1 : goal.returns-else-kind-eq1
 returns-else-kind-eq1 c =
     let s = c.args.self.now in
-    let none = stands_nowhere (Cell c.args.n) s.places c.in-None.ensures in
+    let none = stands_nowhere (Some c.args.n) s.places c.in-None.ensures in
     sets_kept s.places c.args.n c.args.kind (omega arith) (omega arith) (omega arith)
