@@ -1,7 +1,7 @@
 // Where a chunk lies: its key, the size of its cells and its id.
 ghost use Rattle.std.specs.Prelude.{◌≡◌, true, false, ◌&&◌, T, MatchResult};
 ghost use Rattle.refusals.specs.declared.Refusal.TheVariants.{BadMaking};
-ghost use Rattle.grid.specs.Lawful.{exponent_fits, key_fits, size_fits, keys_fit, sizes_fit, chunk_fits, making_answer};
+ghost use Rattle.grid.specs.Lawful.{exponent_fits, size_fits, sizes_fit, chunk_fits, making_answer};
 
 use math::{IVector, Vector};
 use refusals::Refusal;
@@ -15,31 +15,10 @@ pub struct ChunkFrame {
     ghost ok: { T (chunk_fits key voxel_size id) },
 }
 
-fn key_fits(key: i32) -> bool
-    ensures { result ≡ key_fits key }
-{
-    key >= -4096 && key <= 4096
-}
-
 fn size_fits(size: f32) -> bool
     ensures { result ≡ size_fits size }
 {
     size > 0.0 && size <= f32::MAX
-}
-
-fn exponent_fits(exponent: Option<i32>) -> bool
-    ensures { result ≡ exponent_fits exponent }
-{
-    match exponent {
-        None => true,
-        Some(e) => e >= -10 && e <= 10,
-    }
-}
-
-fn keys_fit(key: IVector) -> bool
-    ensures { result ≡ keys_fit key }
-{
-    key_fits(key.x) && key_fits(key.y) && key_fits(key.z)
 }
 
 fn sizes_fit(size: Vector) -> bool
@@ -48,10 +27,16 @@ fn sizes_fit(size: Vector) -> bool
     size_fits(size.x) && size_fits(size.y) && size_fits(size.z)
 }
 
+fn exponent_fits(exponent: Option<i32>) -> bool
+    ensures { result ≡ exponent_fits exponent }
+{
+    exponent.is_none_or(|e| (-10..=10).contains(&e))
+}
+
 fn chunk_fits(key: IVector, voxel_size: Vector, id: u32) -> bool
     ensures { result ≡ chunk_fits key voxel_size id }
 {
-    keys_fit(key) && id <= 8_388_607 && sizes_fit(voxel_size)
+    key.all_between::<-4096, 4096>() && id <= 8_388_607 && sizes_fit(voxel_size)
 }
 
 // The test before a making: the size exponent, where there is one, the chunk key, the cell size and the id.
@@ -74,13 +59,11 @@ impl ChunkFrame {
     pub fn new(key: IVector, voxel_size: Vector, id: u32) -> Result<ChunkFrame, Refusal>
         ensures { MatchResult result (λ f. (chunk_fits key voxel_size id ≡ true) × ((f.key ≡ key) × ((f.voxel_size ≡ voxel_size) × (f.id ≡ id)))) (λ e. (chunk_fits key voxel_size id ≡ false) × (e ≡ BadMaking)) }
     {
-        match check_making(None, key, voxel_size, id) {
-            Ok(()) => Ok(ChunkFrame {
-                key,
-                voxel_size,
-                id,
-            }),
-            Err(refusal) => Err(refusal),
-        }
+        check_making(None, key, voxel_size, id)?;
+        Ok(ChunkFrame {
+            key,
+            voxel_size,
+            id,
+        })
     }
 }
