@@ -1,6 +1,6 @@
 // A chunk's box, its cells' boxes and numbers, and the cell of a point.
 ghost use Rattle.std.specs.Prelude.{◌≡◌, pos, negsuc, ◌≤ℤ◌};
-ghost use Rattle.grid.specs.Frame.{key_float, corner, chunk_box, cell_centre, cell_box, nearest_place, place_of, key_of, cell_number, flat_id_at};
+ghost use Rattle.grid.specs.Frame.{key_float, corner, chunk_box, cell_centre, cell_box, place_of, key_of, cell_number, flat_id_at};
 
 use crate::frame::ChunkFrame;
 use crate::voxel_key::VoxelKey;
@@ -17,26 +17,13 @@ fn key_to_float(chunk_key: i32, place: u8) -> f32
     (8 * chunk_key + place as i32) as f32
 }
 
-// The place of a key above the chunk's lowest one, brought to the nearest from 0 to 8.
-fn nearest_place(low: i32, key: i32) -> u8
-    requires { (negsuc 32767 ≤ℤ low) × (low ≤ℤ pos 32768) }
-    ensures { result ≡ nearest_place low key }
-{
-    if key < low {
-        0
-    } else if key > low + 8 {
-        8
-    } else {
-        (key - low) as u8
-    }
-}
-
-// The place of the cell that holds a coordinate.
+// The place of the cell that holds a coordinate, brought to the nearest from 0 to 8.
 fn place_of(chunk_key: i32, coordinate: f32, size: f32) -> u8
-    requires { (negsuc 4095 ≤ℤ chunk_key) × (chunk_key ≤ℤ pos 4096) }
     ensures { result ≡ place_of chunk_key coordinate size }
 {
-    nearest_place(8 * chunk_key, math::to_i32(math::floor(coordinate / size)))
+    let low = 8 * i64::from(chunk_key);
+    let key = i64::from(math::to_i32(math::floor(coordinate / size)));
+    (key - low).clamp(0, 8) as u8
 }
 
 // The number of the cell at a key: x + 8 y + 64 z, and none outside the chunk.

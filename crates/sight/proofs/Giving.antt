@@ -1,5 +1,5 @@
 -- Giving a cell a kind, by what the store answers.
-use Rattle.std.proofs.Common.{◌≡◌, ℕ, ◌<◌, ◌≤◌, Bool, true, false, cond, T, ℤ, nat_abs, Ok, Err, Result, refl, ap, ◌∙◌, subst, arith}
+use Rattle.std.proofs.Common.{◌≡◌, ℕ, ◌<◌, ◌≤◌, Bool, true, false, cond, T, ℤ, pos, nat_abs, Ok, Err, Result, refl, ap, ◌∙◌, subst, arith}
 use Rattle.std.proofs.lemmas.Int.{ints}
 use Rattle.std.proofs.lemmas.Bool.Decides.{nat_tests}
 use Rattle.math.specs.declared.IVector.{IVector}
@@ -7,7 +7,8 @@ use Rattle.refusals.specs.declared.Refusal.{Refusal}
 use Rattle.refusals.specs.declared.Refusal.TheVariants.{CellOutside, StoreFull}
 use Rattle.stores.specs.declared.cell_store.StoreRefusal.{StoreRefusal}
 use Rattle.stores.specs.declared.cell_store.StoreRefusal.TheVariants.{Bad, Full}
-use Rattle.sight.specs.Ranges.{coordinate_fits, cell_fits}
+use Rattle.math.specs.Vectors.{between}
+use Rattle.sight.specs.Ranges.{cell_fits}
 use Rattle.stores.specs.Store.{Sets, is_bad, is_full}
 use Rattle.sight.specs.Cells.{cell_index, index_answer, cell_answer, GivesKind}
 
@@ -30,15 +31,15 @@ index_accepted c n h = go (cell_fits c) h
     go true h = (refl, cc)
     go false h = never cc
 
-coordinate_bound : (i : ℤ) → T (coordinate_fits i) → nat_abs i < 8
-coordinate_bound i h = grind (arith, ints)
+between_bound : (i : ℤ) → T (between (pos 0) (pos 7) i) → nat_abs i < 8
+between_bound i h = grind (arith, ints)
 
 pub index_bound : (c : IVector) → cell_fits c ≡ true → cell_index c < 512
 index_bound c h =
-    let x : T (coordinate_fits c.x) = grind arith in
-    let y : T (coordinate_fits c.y) = grind arith in
-    let z : T (coordinate_fits c.z) = grind arith in
-    omega (arith, coordinate_bound c.x x, coordinate_bound c.y y, coordinate_bound c.z z)
+    let x : T (between (pos 0) (pos 7) c.x) = grind arith in
+    let y : T (between (pos 0) (pos 7) c.y) = grind arith in
+    let z : T (between (pos 0) (pos 7) c.z) = grind arith in
+    omega (arith, between_bound c.x x, between_bound c.y y, between_bound c.z z)
 
 not_bad : (n kind : ℕ) → n < 512 → kind ≤ 1 → is_bad n kind ≡ false
 not_bad n kind h k = grind (arith, nat_tests)

@@ -4,3 +4,4 @@ pub mod Cubes
 pub mod Axes
 pub mod LookStart
 pub mod Giving
+pub mod Numbers

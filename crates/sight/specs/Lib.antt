@@ -2,3 +2,4 @@ pub mod Ranges
 pub mod Power
 pub mod Sight
 pub mod Cells
+pub mod Changes

@@ -1,7 +1,7 @@
 // Points of the grid on which sight lines begin and end.
 ghost use Rattle.std.specs.Prelude.{◌≡◌, ◌≤◌, true, false, pos, MatchResult};
 ghost use Rattle.refusals.specs.declared.Refusal.TheVariants.{PointOutside};
-ghost use Rattle.sight.specs.Ranges.{unit_fits, grid_fits};
+ghost use Rattle.sight.specs.Ranges.{grid_fits};
 
 use math::IVector;
 use refusals::Refusal;
@@ -15,24 +15,12 @@ pub struct GridPoint {
     ghost ok: { (x ≤ 1023) × ((y ≤ 1023) × (z ≤ 1023)) },
 }
 
-fn unit_fits(g: i32) -> bool
-    ensures { result ≡ unit_fits g }
-{
-    g >= 0 && g <= 1023
-}
-
-fn grid_fits(point: IVector) -> bool
-    ensures { result ≡ grid_fits point }
-{
-    unit_fits(point.x) && unit_fits(point.y) && unit_fits(point.z)
-}
-
 impl GridPoint {
     // The point with these coordinates; refused where one is outside 0..=1023.
     pub fn new(point: IVector) -> Result<GridPoint, Refusal>
         ensures { MatchResult result (λ p. (grid_fits point ≡ true) × ((pos p.x ≡ point.x) × ((pos p.y ≡ point.y) × (pos p.z ≡ point.z)))) (λ e. (grid_fits point ≡ false) × (e ≡ PointOutside)) }
     {
-        if grid_fits(point) {
+        if point.all_between::<0, 1023>() {
             Ok(GridPoint {
                 x: point.x as u16,
                 y: point.y as u16,

@@ -33,21 +33,14 @@ impl<S: CellStore> Scan<S> {
             (λ s. ((exponent_fits (Some exponent) && chunk_fits key (cube exponent) id) ≡ true) × ((s.exponent ≡ exponent) × ((s.chunk.frame.key ≡ key) × ((s.chunk.frame.id ≡ id) × ((n : ℕ) → S.CellStore.kinds s.chunk.cells n ≡ 0)))))
             (λ e. ((exponent_fits (Some exponent) && chunk_fits key (cube exponent) id) ≡ false) × (e ≡ BadMaking)) }
     {
-        if exponent < -10 || exponent > 10 {
+        if !(-10..=10).contains(&exponent) {
             return Err(Refusal::BadMaking);
         }
         let size = power_of_two(exponent);
-        let voxel_size = Vector {
-            x: size,
-            y: size,
-            z: size,
-        };
-        match ChunkFrame::new(key, voxel_size, id) {
-            Ok(frame) => Ok(Scan {
-                exponent,
-                chunk: Chunk::new(frame),
-            }),
-            Err(refusal) => Err(refusal),
-        }
+        let frame = ChunkFrame::new(key, Vector::new(size, size, size), id)?;
+        Ok(Scan {
+            exponent,
+            chunk: Chunk::new(frame),
+        })
     }
 }

@@ -1,21 +1,20 @@
-use Rattle.std.proofs.Common.{◌≡◌, ℕ, ◌+◌, ◌*◌, Bool, true, cond, nat_abs, Ok, Err, sym, refl, ap, ◌∙◌, w32, to_z, of_z, rules}
-use Rattle.std.proofs.lemmas.Int.{to_z-of_z}
-use Rattle.refusals.specs.declared.Refusal.TheVariants.{CellOutside}
-use Rattle.sight.specs.Ranges.{cell_fits}
-use Rattle.sight.specs.Cells.{cell_index, index_answer}
+use Rattle.std.proofs.Common.{◌≡◌, pos, ◌∙◌, rules}
+use Rattle.sight.proofs.Numbers.{key_number, no_x, no_y, no_z}
 use Rattle.sight.proofs.edit.cell_index.Goals as goal
 
-pub returns-then-cell_fits : goal.returns-then-cell_fits
-unfolding index_answer
-returns-then-cell_fits c =
-    let cell = c.args.cell in
-    let fits : cell_fits cell ≡ true = cc in
-    let x : to_z w32 (of_z w32 cell.x) ≡ cell.x = search (rules, to_z-of_z) in
-    let y : to_z w32 (of_z w32 cell.y) ≡ cell.y = search (rules, to_z-of_z) in
-    let z : to_z w32 (of_z w32 cell.z) ≡ cell.z = search (rules, to_z-of_z) in
-    let n : nat_abs (to_z w32 (of_z w32 cell.x)) + 8 * nat_abs (to_z w32 (of_z w32 cell.y)) + 64 * nat_abs (to_z w32 (of_z w32 cell.z)) ≡ cell_index cell = rw (x, y, z) refl in
-    ap (λ (i : ℕ). Ok i) n ∙ sym (ap (λ (b : Bool). cond b (Ok (cell_index cell)) (Err CellOutside)) fits)
+pub returns : goal.returns
+returns c =
+    let k = c.in-Ok-Ok-Ok in
+    let x : pos k.x ≡ c.args.cell.x = search rules in
+    let y : pos k.y ≡ c.args.cell.y = search rules in
+    let z : pos k.z ≡ c.args.cell.z = search rules in
+    c.ok_or.ensures.value ∙ rw c.cell_number.ensures (key_number (record { x = k.x; y = k.y; z = k.z }) c.args.cell x y z)
 
-pub returns-else-cell_fits : goal.returns-else-cell_fits
-unfolding index_answer
-returns-else-cell_fits c = search rules
+pub returns-in_default : goal.returns-in_default
+returns-in_default c = no_z c.args.cell (search rules)
+
+pub returns-in_default-2 : goal.returns-in_default-2
+returns-in_default-2 c = no_y c.args.cell (search rules)
+
+pub returns-in_default-3 : goal.returns-in_default-3
+returns-in_default-3 c = no_x c.args.cell (search rules)
