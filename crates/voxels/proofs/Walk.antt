@@ -51,11 +51,11 @@ step_is_next_key : (o : Option VoxelKey) (m : VoxelKey) → step_to o ≡ Step m
 step_is_next_key None m e = let z : ◌≡◌ {A = ℕ} 0 1 = cc in absurd (omega arith)
 step_is_next_key (Some k) m e = cc
 
-step_uses_one : (k m : VoxelKey) (d times : Vector) (limit : Float) → step_from k d times limit ≡ Step m → suc (steps_left d m) ≡ steps_left d k
+step_uses_one : (k m : VoxelKey) (d times : Vector) (limit : Float) → step_to (step_from k d times limit) ≡ Step m → suc (steps_left d m) ≡ steps_left d k
 unfolding step_from
 step_uses_one k m d times limit = go (all_later times limit)
   where
-    go : (b : Bool) → cond b Stop (step_to (next_key k d (min_position times))) ≡ Step m → suc (steps_left d m) ≡ steps_left d k
+    go : (b : Bool) → step_to (cond b None (next_key k d (min_position times))) ≡ Step m → suc (steps_left d m) ≡ steps_left d k
     go true e = let z : ◌≡◌ {A = ℕ} 0 1 = cc in absurd (omega arith)
     go false e = next_key_uses_one k m d (min_position times) (step_is_next_key (next_key k d (min_position times)) m e)
 
@@ -64,7 +64,7 @@ pub turn_uses_one : (f : ChunkFrame) (kinds : ℕ → ℕ) (r : Ray) (limit : Fl
 unfolding turn_at
 turn_uses_one f kinds r limit solid k m = go (cell_hit f kinds r limit solid k)
   where
-    go : (o : Option RayIntersection) → or_else o (step_from k r.dir (step_times (cell_box f k) r) limit) ≡ Step m → suc (steps_left r.dir m) ≡ steps_left r.dir k
+    go : (o : Option RayIntersection) → or_else o (step_to (step_from k r.dir (step_times (cell_box f k) r) limit)) ≡ Step m → suc (steps_left r.dir m) ≡ steps_left r.dir k
     go None e = step_uses_one k m r.dir (step_times (cell_box f k) r) limit e
     go (Some h) e = let z : ◌≡◌ {A = ℕ} 0 1 = cc in absurd (omega arith)
 

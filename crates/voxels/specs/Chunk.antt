@@ -80,21 +80,21 @@ next_key k d X = and_then (next_place k.x d.x) (at_x k)
 next_key k d Y = and_then (next_place k.y d.y) (at_y k)
 next_key k d Z = and_then (next_place k.z d.z) (at_z k)
 
+-- along the axis whose face comes first, the lowest of equal ones; no further where all come after the limit
+unfoldable pub step_from : VoxelKey → Vector → Vector → Float → Option VoxelKey
+step_from k d times limit = cond (all_later times limit) None (next_key k d (min_position times))
+
+-- ---- one turn at a key
 abbrev pub step_to : Option VoxelKey → Turn
 step_to None = Stop
 step_to (Some k) = Step k
 
--- along the axis whose face comes first, the lowest of equal ones; no further where all come after the limit
-unfoldable pub step_from : VoxelKey → Vector → Vector → Float → Turn
-step_from k d times limit = cond (all_later times limit) Stop (step_to (next_key k d (min_position times)))
-
--- ---- one turn at a key
 abbrev pub or_else : Option RayIntersection → Turn → Turn
 or_else None next = next
 or_else (Some h) next = Hit h
 
 unfoldable pub turn_at : ChunkFrame → (ℕ → ℕ) → Ray → Float → Bool → VoxelKey → Turn
-turn_at f kinds r limit solid k = or_else (cell_hit f kinds r limit solid k) (step_from k r.dir (step_times (cell_box f k) r) limit)
+turn_at f kinds r limit solid k = or_else (cell_hit f kinds r limit solid k) (step_to (step_from k r.dir (step_times (cell_box f k) r) limit))
 
 -- ---- the walk: at most that many turns, each key that is stood on counted
 abbrev pub no_hit : ℕ → ChunkCast

@@ -63,11 +63,11 @@ all_later_kept times limit longer l e =
     let z : T (lt longer times.z) → T (lt limit times.z) = lt_of_le_of_lt limit longer times.z l in
     grind arith
 
-step_keeps : (k : VoxelKey) (d times : Vector) (limit longer : Float) → T (le limit longer) → Keeps (step_from k d times limit) (step_from k d times longer)
+step_keeps : (k : VoxelKey) (d times : Vector) (limit longer : Float) → T (le limit longer) → Keeps (step_to (step_from k d times limit)) (step_to (step_from k d times longer))
 unfolding step_from
 step_keeps k d times limit longer l = go (all_later times limit) (all_later times longer) (all_later_kept times limit longer l) (next_key k d (min_position times))
   where
-    go : (a b : Bool) → (b ≡ true → a ≡ true) → (o : Option VoxelKey) → Keeps (cond a Stop (step_to o)) (cond b Stop (step_to o))
+    go : (a b : Bool) → (b ≡ true → a ≡ true) → (o : Option VoxelKey) → Keeps (step_to (cond a None o)) (step_to (cond b None o))
     go true b s o = tt
     go false true s o = never (let e : false ≡ true = s refl in cc)
     go false false s None = tt
@@ -101,9 +101,9 @@ module _ (f : ChunkFrame) (kinds more : ℕ → ℕ) (filled : MoreFilled kinds 
   turn_keeps = go (cell_hit f kinds r limit solid k) (cell_hit f more r longer solid k) cell_kept
     where
       go : (a b : Option RayIntersection) → (is_some a ≡ true → is_some b ≡ true)
-          → Keeps (or_else a (step_from k r.dir (step_times (cell_box f k) r) limit)) (or_else b (step_from k r.dir (step_times (cell_box f k) r) longer))
+          → Keeps (or_else a (step_to (step_from k r.dir (step_times (cell_box f k) r) limit))) (or_else b (step_to (step_from k r.dir (step_times (cell_box f k) r) longer)))
       go None None s = step_keeps k r.dir (step_times (cell_box f k) r) limit longer l
-      go a (Some g) s = hit_or_step (or_else a (step_from k r.dir (step_times (cell_box f k) r) limit)) g
+      go a (Some g) s = hit_or_step (or_else a (step_to (step_from k r.dir (step_times (cell_box f k) r) limit))) g
       go (Some h) None s = never (let e : false ≡ true = s refl in cc)
 
 -- ---- casts: the walk begins under `longer` too, and its limit is no earlier

@@ -41,11 +41,11 @@ walk_hit turn P all (suc n) k h e = go (walk_hit turn P all n) (turn k) refl e
     go rest Stop s e = none_is_not_some h e
     go rest (Step m) s e = rest m h e
 
-step_is_no_hit : (k : VoxelKey) (d times : Vector) (limit : Float) (h : RayIntersection) {A : Type 0} → step_from k d times limit ≡ Hit h → A
+step_is_no_hit : (k : VoxelKey) (d times : Vector) (limit : Float) (h : RayIntersection) {A : Type 0} → step_to (step_from k d times limit) ≡ Hit h → A
 unfolding step_from
 step_is_no_hit k d times limit h = go (all_later times limit) (next_key k d (min_position times))
   where
-    go : {A : Type 0} (b : Bool) (o : Option VoxelKey) → cond b Stop (step_to o) ≡ Hit h → A
+    go : {A : Type 0} (b : Bool) (o : Option VoxelKey) → step_to (cond b None o) ≡ Hit h → A
     go true o e = never cc
     go false None e = never cc
     go false (Some m) e = never cc
@@ -55,7 +55,7 @@ turn_hit : (f : ChunkFrame) (kinds : ℕ → ℕ) (r : Ray) (limit : Float) (sol
 unfolding turn_at
 turn_hit f kinds r limit solid k h = go (cell_hit f kinds r limit solid k)
   where
-    go : (o : Option RayIntersection) → or_else o (step_from k r.dir (step_times (cell_box f k) r) limit) ≡ Hit h → o ≡ Some h
+    go : (o : Option RayIntersection) → or_else o (step_to (step_from k r.dir (step_times (cell_box f k) r) limit)) ≡ Hit h → o ≡ Some h
     go None e = step_is_no_hit k r.dir (step_times (cell_box f k) r) limit h e
     go (Some g) e = cc
 

@@ -3,7 +3,7 @@ use grid::voxel_key::VoxelKey;
 use query::ray::RayIntersection;
 
 // The hit, if any, and the number of keys that the walk stood on.
-#[derive(Clone, Copy)]
+#[derive(Clone, Copy, PartialEq, Debug)]
 pub struct ChunkCast {
     pub hit: Option<RayIntersection>,
     pub visited: u32,

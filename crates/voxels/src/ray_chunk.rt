@@ -21,52 +21,59 @@ fn stops(kind: u8) -> bool
     kind == 1
 }
 
-impl<S: CellStore> Chunk<S> {
+// A walk along a ray through a chunk's cells, up to a limit.
+#[derive_where(Clone, Copy)]
+struct Walk<'a, S> {
+    chunk: &'a Chunk<S>,
+    ray: &'a Ray,
+    limit: f32,
+    solid: bool,
+}
+
+impl<'a, S: CellStore> Walk<'a, S> {
     // The hit of the cell at a key, if a cell is there, stops the line and is hit within the limit.
-    fn cast_cell(
-        &self,
-        key: VoxelKey,
-        aabb: &Aabb,
-        ray: &Ray,
-        limit: f32,
-        solid: bool,
-    ) -> Option<RayIntersection>
-        requires { aabb.now ≡ cell_box self.now.frame key }
-        ensures { result ≡ cell_hit self.now.frame (S.CellStore.kinds self.now.cells) ray.now limit solid key }
+    #[tactic(auto, unfolding(crate::specs::Chunk::cell_hit))]
+    fn cast_cell(&self, key: VoxelKey, aabb: &Aabb) -> Option<RayIntersection>
+        requires { aabb.now ≡ cell_box self.now.chunk.now.frame key }
+        ensures { result ≡ cell_hit self.now.chunk.now.frame (S.CellStore.kinds self.now.chunk.now.cells) self.now.ray.now self.now.limit self.now.solid key }
     {
-        let kind = self.voxel_state(key)?;
+        let kind = self.chunk.voxel_state(key)?;
         if !stops(kind) {
             return None;
         }
-        let hit = aabb.cast_local_ray_and_get_normal(ray, limit, solid)?;
-        let Some(id) = self.frame.flat_id(key) else {
+        let hit = aabb.cast_local_ray_and_get_normal(self.ray, self.limit, self.solid)?;
+        let Some(id) = self.chunk.frame.flat_id(key) else {
             // a key with a kind is in the chunk, so it has an id
-            unreachable()
+            unreachable!()
         };
         Some(RayIntersection::new(hit.time_of_impact, hit.normal, FeatureId::Face(id)))
     }
 
     // One turn of the walk.
-    fn turn_at(&self, key: VoxelKey, ray: &Ray, limit: f32, solid: bool) -> Turn
-        ensures { result ≡ turn_at self.now.frame (S.CellStore.kinds self.now.cells) ray.now limit solid key }
+    #[tactic(auto, unfolding(crate::specs::Chunk::turn_at))]
+    fn turn_at(&self, key: VoxelKey) -> Turn
+        ensures { result ≡ turn_at self.now.chunk.now.frame (S.CellStore.kinds self.now.chunk.now.cells) self.now.ray.now self.now.limit self.now.solid key }
     {
-        let aabb = self.frame.voxel_aabb(key);
-        match self.cast_cell(key, &aabb, ray, limit, solid) {
-            Some(hit) => Turn::Hit(hit),
-            None => step_from(key, &aabb, ray, limit),
+        let aabb = self.chunk.frame.voxel_aabb(key);
+        if let Some(hit) = self.cast_cell(key, &aabb) {
+            return Turn::Hit(hit);
+        }
+        match step_from(key, &aabb, self.ray, self.limit) {
+            Some(next) => Turn::Step(next),
+            None => Turn::Stop,
         }
     }
 
     // The walk from a key on.
-    fn walk_from(&self, first: VoxelKey, ray: &Ray, limit: f32, solid: bool) -> ChunkCast
+    fn walk_from(&self, first: VoxelKey) -> ChunkCast
         requires { (first.x ≤ 8) × ((first.y ≤ 8) × (first.z ≤ 8)) }
-        ensures { result ≡ walk (turn_at self.now.frame (S.CellStore.kinds self.now.cells) ray.now limit solid) 25 first }
+        ensures { result ≡ walk (turn_at self.now.chunk.now.frame (S.CellStore.kinds self.now.chunk.now.cells) self.now.ray.now self.now.limit self.now.solid) 25 first }
     {
         let mut key = first;
         let mut visited = 0;
         loop {
             visited += 1;
-            match self.turn_at(key, ray, limit, solid) {
+            match self.turn_at(key) {
                 Turn::Hit(hit) => return ChunkCast {
                     hit: Some(hit),
                     visited,
@@ -76,7 +83,9 @@ impl<S: CellStore> Chunk<S> {
             }
         }
     }
+}
 
+impl<S: CellStore> Chunk<S> {
     // The first filled cell whose box the ray hits within the reach, and the number of keys that the walk stood on.
     // The hit's feature is the face id * 512 + cell number.
     // On other cells, all else the same: filling some loses no hit, and emptying some brings none.
@@ -100,7 +109,13 @@ impl<S: CellStore> Chunk<S> {
         }
         let limit = scalar::min(end, max_time_of_impact);
         let first = self.frame.voxel_at_point(ray.point_at(start));
-        self.walk_from(first, ray, limit, solid)
+        let walk = Walk {
+            chunk: self,
+            ray,
+            limit,
+            solid,
+        };
+        walk.walk_from(first)
     }
 }
 

@@ -2,7 +2,6 @@
 ghost use Rattle.std.specs.Prelude.{◌≡◌};
 ghost use Rattle.voxels.specs.Chunk.{step_time, step_times, all_later, next_place, next_key, step_from};
 
-use crate::chunk_cast::Turn;
 use boxes::aabb::Aabb;
 use grid::voxel_key::VoxelKey;
 use math::{Axis, Vector};
@@ -10,18 +9,18 @@ use query::ray::Ray;
 
 // When the ray is at the height of the face ahead. A face that rounding has put behind the origin is passed at once,
 // so that the cells ahead of it are not lost.
+#[tactic(auto, unfolding(crate::specs::Chunk::step_time))]
 fn step_time(low: f32, high: f32, origin: f32, dir: f32) -> f32
     ensures { result ≡ step_time low high origin dir }
 {
-    if dir > 0.0 {
-        let time = (high - origin) / dir;
-        if time < 0.0 { 0.0 } else { time }
+    let time = if dir > 0.0 {
+        (high - origin) / dir
     } else if dir < 0.0 {
-        let time = (low - origin) / dir;
-        if time < 0.0 { 0.0 } else { time }
+        (low - origin) / dir
     } else {
-        f32::MAX
-    }
+        return f32::MAX;
+    };
+    if time < 0.0 { 0.0 } else { time }
 }
 
 fn step_times(aabb: &Aabb, ray: &Ray) -> Vector
@@ -41,6 +40,7 @@ fn all_later(times: Vector, limit: f32) -> bool
 }
 
 // Up where the direction is above zero, else down; none where that leaves the chunk.
+#[tactic(auto, unfolding(crate::specs::Chunk::next_place))]
 fn next_place(place: u8, dir: f32) -> Option<u8>
     ensures { result ≡ next_place place dir }
 {
@@ -59,38 +59,29 @@ fn next_key(key: VoxelKey, dir: Vector, axis: Axis) -> Option<VoxelKey>
     match axis {
         Axis::X => Some(VoxelKey {
             x: next_place(key.x, dir.x)?,
-            y: key.y,
-            z: key.z,
+            ..key
         }),
         Axis::Y => Some(VoxelKey {
-            x: key.x,
             y: next_place(key.y, dir.y)?,
-            z: key.z,
+            ..key
         }),
         Axis::Z => Some(VoxelKey {
-            x: key.x,
-            y: key.y,
             z: next_place(key.z, dir.z)?,
+            ..key
         }),
-    }
-}
-
-fn step_by(key: VoxelKey, dir: Vector, times: Vector, limit: f32) -> Turn
-    ensures { result ≡ step_from key dir times limit }
-{
-    if all_later(times, limit) {
-        return Turn::Stop;
-    }
-    match next_key(key, dir, times.min_position()) {
-        None => Turn::Stop,
-        Some(next) => Turn::Step(next),
     }
 }
 
 // The step from a key, whose cell has the box `aabb`: along the axis whose face comes first, the lowest of equal ones.
-// The walk ends where all faces come after the limit, and where the step would leave the chunk.
-pub fn step_from(key: VoxelKey, aabb: &Aabb, ray: &Ray, limit: f32) -> Turn
+// None where all faces come after the limit, and where the step would leave the chunk.
+#[tactic(auto, unfolding(crate::specs::Chunk::step_from))]
+pub fn step_from(key: VoxelKey, aabb: &Aabb, ray: &Ray, limit: f32) -> Option<VoxelKey>
     ensures { result ≡ step_from key ray.now.dir (step_times aabb.now ray.now) limit }
 {
-    step_by(key, ray.dir, step_times(aabb, ray), limit)
+    let times = step_times(aabb, ray);
+    if all_later(times, limit) {
+        None
+    } else {
+        next_key(key, ray.dir, times.min_position())
+    }
 }
