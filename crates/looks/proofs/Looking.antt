@@ -14,7 +14,7 @@ use Rattle.grid.specs.declared.voxel_key.VoxelKey.{VoxelKey}
 use Rattle.voxels.specs.declared.chunk_cast.ChunkCast.{ChunkCast}
 use Rattle.voxels.specs.declared.chunk_cast.Turn.{Turn}
 use Rattle.grid.specs.Frame.{cell_box, cell_number, flat_id}
-use Rattle.voxels.specs.Chunk.{stops, named, boxed_hit, cell_hit, step_times, step_from, or_else, turn_at, onward, walk}
+use Rattle.voxels.specs.Chunk.{stops, named, boxed_hit, cell_hit, step_times, step_to, step_from, or_else, turn_at, onward, walk}
 use Rattle.line.specs.Line.{Point, Cell, Crosses}
 use Rattle.line.specs.Look.{LookResult, clear_after, look_on, look, StopsFor}
 use Rattle.looks.specs.Units.{key_of_cell}
@@ -48,7 +48,7 @@ module _ (f : ChunkFrame) (kinds : ℕ → ℕ) (r : Ray) (limit : Float) where
   pub walk_is_look : (n : ℕ) (c : Cell) → SameLook (walk turn n (key_of_cell c)) (look stops_at rule n c)
   unfolding walk look turn_at
   walk_is_look zero c = record { visited = refl; hit = tt }
-  walk_is_look (suc n) c = go (walk_is_look n) (hit_at c) refl (rule c) (step_from (key_of_cell c) r.dir (step_times (cell_box f (key_of_cell c)) r) limit) (step_by_rule f r limit c)
+  walk_is_look (suc n) c = go (walk_is_look n) (hit_at c) refl (rule c) (step_to (step_from (key_of_cell c) r.dir (step_times (cell_box f (key_of_cell c)) r) limit)) (step_by_rule f r limit c)
     where
       go : ((d : Cell) → SameLook (walk turn n (key_of_cell d)) (look stops_at rule n d)) → (o : Option RayIntersection) → hit_at c ≡ o → (y : Option Cell) (s : Turn) → s ≡ turn_to y
           → SameLook (onward (walk turn n) (or_else o s)) (cond (is_some o) (record { hit = Some c; visited = 1 }) (look_on (look stops_at rule n) y))

@@ -16,7 +16,7 @@ use Rattle.query.specs.declared.ray.Ray.{Ray}
 use Rattle.grid.specs.declared.frame.ChunkFrame.{ChunkFrame}
 use Rattle.grid.specs.declared.voxel_key.VoxelKey.{VoxelKey}
 use Rattle.voxels.specs.declared.chunk_cast.Turn.{Turn}
-use Rattle.voxels.specs.declared.chunk_cast.Turn.TheVariants.{Hit, Stop, Step}
+use Rattle.voxels.specs.declared.chunk_cast.Turn.TheVariants.{Stop, Step}
 use Rattle.grid.specs.Lawful.{exponent_fits}
 use Rattle.grid.specs.Frame.{centre, cell_box}
 use Rattle.voxels.specs.Chunk.{step_time, step_times, all_later, next_place, next_key, step_to, step_from}
@@ -165,35 +165,30 @@ axis_step {e} {key} {size} {g} {h} a n N =
     }
 
 -- ---- the rule: the cell that the step in floats leads to, along a ray up to a limit
-abbrev pub stepped_to : Turn → Option Cell
-stepped_to (Hit h) = None
-stepped_to Stop = None
-stepped_to (Step k) = Some (cell_of_key k)
+abbrev pub stepped_to : Option VoxelKey → Option Cell
+stepped_to None = None
+stepped_to (Some k) = Some (cell_of_key k)
 
 unfoldable pub float_rule : ChunkFrame → Ray → Float → Cell → Option Cell
 float_rule f r limit c = stepped_to (step_from (key_of_cell c) r.dir (step_times (cell_box f (key_of_cell c)) r) limit)
 
--- a step is never a hit, so the rule tells all of it
 abbrev pub turn_to : Option Cell → Turn
 turn_to None = Stop
 turn_to (Some d) = Step (key_of_cell d)
 
-turn_back : (b : Bool) (k : Option VoxelKey) → cond b Stop (step_to k) ≡ turn_to (stepped_to (cond b Stop (step_to k)))
-turn_back true k = refl
-turn_back false None = refl
-turn_back false (Some k) = refl
+turn_back : (o : Option VoxelKey) → step_to o ≡ turn_to (stepped_to o)
+turn_back None = refl
+turn_back (Some k) = refl
 
-pub step_by_rule : (f : ChunkFrame) (r : Ray) (limit : Float) (c : Cell) → step_from (key_of_cell c) r.dir (step_times (cell_box f (key_of_cell c)) r) limit ≡ turn_to (float_rule f r limit c)
-unfolding float_rule step_from
-step_by_rule f r limit c =
-    let v = step_times (cell_box f (key_of_cell c)) r in
-    turn_back (all_later v limit) (next_key (key_of_cell c) r.dir (min_position v))
+pub step_by_rule : (f : ChunkFrame) (r : Ray) (limit : Float) (c : Cell) → step_to (step_from (key_of_cell c) r.dir (step_times (cell_box f (key_of_cell c)) r) limit) ≡ turn_to (float_rule f r limit c)
+unfolding float_rule
+step_by_rule f r limit c = turn_back (step_from (key_of_cell c) r.dir (step_times (cell_box f (key_of_cell c)) r) limit)
 
-stepped_unless : (b : Bool) (y : Turn) → stepped_to (cond b Stop y) ≡ cond b None (stepped_to y)
-stepped_unless true y = refl
-stepped_unless false y = refl
+stepped_unless : (b : Bool) (o : Option VoxelKey) → stepped_to (cond b None o) ≡ cond b None (stepped_to o)
+stepped_unless true o = refl
+stepped_unless false o = refl
 
-stepped_along : (c : Cell) (d : Vector) (a : Math.Axis) (y : Option ℕ) → next_place (index c (line_axis a)) (component d a) ≡ y → stepped_to (step_to (next_key (key_of_cell c) d a)) ≡ cell_at c (line_axis a) y
+stepped_along : (c : Cell) (d : Vector) (a : Math.Axis) (y : Option ℕ) → next_place (index c (line_axis a)) (component d a) ≡ y → stepped_to (next_key (key_of_cell c) d a) ≡ cell_at c (line_axis a) y
 stepped_along c d MathAxis.X None e = rw e
 stepped_along c d MathAxis.X (Some n) e = rw e
 stepped_along c d MathAxis.Y None e = rw e
@@ -225,7 +220,7 @@ module _ (f : ChunkFrame) (e : ℤ) (range : T (exponent_fits (Some e))) (size :
     step_times_exact s a Y = (exact_step_on MathAxis.Y).time s (a Y)
     step_times_exact s a Z = (exact_step_on MathAxis.Z).time s (a Z)
 
-    next_key_exact : (a : Math.Axis) → stepped_to (step_to (next_key (key_of_cell c) line.dir a)) ≡ cell_at c (line_axis a) (next_on from to c (line_axis a))
+    next_key_exact : (a : Math.Axis) → stepped_to (next_key (key_of_cell c) line.dir a) ≡ cell_at c (line_axis a) (next_on from to c (line_axis a))
     next_key_exact MathAxis.X = stepped_along c line.dir MathAxis.X (next_on from to c X) (exact_step_on MathAxis.X).next
     next_key_exact MathAxis.Y = stepped_along c line.dir MathAxis.Y (next_on from to c Y) (exact_step_on MathAxis.Y).next
     next_key_exact MathAxis.Z = stepped_along c line.dir MathAxis.Z (next_on from to c Z) (exact_step_on MathAxis.Z).next
@@ -233,7 +228,7 @@ module _ (f : ChunkFrame) (e : ℤ) (range : T (exponent_fits (Some e))) (size :
     rule_by_times : (limit : Float) → float_rule f line limit c ≡ cond (all_later times_at limit) None (cell_at c (line_axis (min_position times_at)) (next_on from to c (line_axis (min_position times_at))))
     unfolding float_rule step_from
     rule_by_times limit =
-        stepped_unless (all_later times_at limit) (step_to (next_key (key_of_cell c) line.dir (min_position times_at)))
+        stepped_unless (all_later times_at limit) (next_key (key_of_cell c) line.dir (min_position times_at))
         ∙ ap (λ (y : Option Cell). cond (all_later times_at limit) None y) (next_key_exact (min_position times_at))
 
   -- at every touched cell the rule takes a least step, or ends where the walk may
