@@ -27,6 +27,7 @@ fn place_of(chunk_key: i32, coordinate: f32, size: f32) -> u8
 }
 
 // The number of the cell at a key: x + 8 y + 64 z, and none outside the chunk.
+#[tactic(auto, unfolding(crate::specs::Frame::cell_number))]
 pub fn cell_number(key: VoxelKey) -> Option<u16>
     ensures { result ≡ cell_number key }
 {
@@ -50,6 +51,7 @@ impl ChunkFrame {
     }
 
     // The box of the whole chunk.
+    #[tactic(auto, unfolding(crate::specs::Frame::chunk_box))]
     pub fn local_aabb(&self) -> Aabb
         ensures { result ≡ chunk_box self.now }
     {
@@ -70,6 +72,7 @@ impl ChunkFrame {
     }
 
     // The box of the cell at a key, also of a key outside the chunk.
+    #[tactic(auto, unfolding(crate::specs::Frame::cell_box))]
     pub fn voxel_aabb(&self, key: VoxelKey) -> Aabb
         ensures { result ≡ cell_box self.now key }
     {

@@ -1,7 +1,6 @@
 -- Giving a cell a kind, by what the store answers.
 use Rattle.std.proofs.Common.{◌≡◌, ℕ, ◌<◌, ◌≤◌, Bool, true, false, cond, T, ℤ, pos, nat_abs, Ok, Err, Result, refl, ap, ◌∙◌, subst, arith}
 use Rattle.std.proofs.lemmas.Int.{ints}
-use Rattle.std.proofs.lemmas.Bool.Decides.{nat_tests}
 use Rattle.math.specs.declared.IVector.{IVector}
 use Rattle.refusals.specs.declared.Refusal.{Refusal}
 use Rattle.refusals.specs.declared.Refusal.TheVariants.{CellOutside, StoreFull}
@@ -10,6 +9,7 @@ use Rattle.stores.specs.declared.cell_store.StoreRefusal.TheVariants.{Bad, Full}
 use Rattle.math.specs.Vectors.{between}
 use Rattle.sight.specs.Ranges.{cell_fits}
 use Rattle.stores.specs.Store.{Sets, is_bad, is_full}
+use Rattle.stores.specs.Setting.{not_bad}
 use Rattle.sight.specs.Cells.{cell_index, index_answer, cell_answer, GivesKind}
 
 never : {A : Type 0} → ◌≡◌ {A = ℕ} 0 1 → A
@@ -40,9 +40,6 @@ index_bound c h =
     let y : T (between (pos 0) (pos 7) c.y) = grind arith in
     let z : T (between (pos 0) (pos 7) c.z) = grind arith in
     omega (arith, between_bound c.x x, between_bound c.y y, between_bound c.z z)
-
-not_bad : (n kind : ℕ) → n < 512 → kind ≤ 1 → is_bad n kind ≡ false
-not_bad n kind h k = grind (arith, nat_tests)
 
 pub outside_changes_nothing : (kinds : ℕ → ℕ) (capacity : ℕ) (c : IVector) (kind : ℕ) → cell_fits c ≡ false → GivesKind kinds kinds capacity c kind (Err CellOutside)
 unfolding cell_answer

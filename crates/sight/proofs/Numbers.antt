@@ -1,5 +1,5 @@
 -- The number of a cell by its coordinates and by its key.
-use Rattle.std.proofs.Common.{◌≡◌, ℕ, ◌+◌, ◌*◌, ◌<◌, Bool, true, false, cond, ◌&&◌, ℤ, pos, negsuc, nat_abs, ◌≤◌, Some, None, Ok, Err, Option, Result, refl, sym, rules, arith}
+use Rattle.std.proofs.Common.{◌≡◌, ℕ, ◌+◌, ◌*◌, Bool, true, false, cond, ◌&&◌, ℤ, pos, negsuc, ◌≤◌, Some, None, Ok, Err, refl, sym, arith}
 use Rattle.std.specs.Option.{ok_or}
 use Rattle.std.specs.Int.{FitsUnsignedBits}
 use Rattle.std.specs.Prelude.{nat_lt}
@@ -7,12 +7,10 @@ use Rattle.std.proofs.lemmas.Int.{ints}
 use Rattle.std.proofs.lemmas.Bool.Decides.{nat_tests}
 use Rattle.math.specs.declared.IVector.{IVector}
 use Rattle.math.specs.Vectors.{between}
-use Rattle.refusals.specs.declared.Refusal.{Refusal}
 use Rattle.refusals.specs.declared.Refusal.TheVariants.{CellOutside}
 use Rattle.grid.specs.declared.voxel_key.VoxelKey.{VoxelKey}
 use Rattle.grid.specs.Frame.{cell_number}
-use Rattle.sight.specs.Ranges.{cell_fits}
-use Rattle.sight.specs.Cells.{cell_index, index_answer}
+use Rattle.sight.specs.Cells.{index_answer}
 
 coordinate_test : (i : ℕ) (z : ℤ) → pos i ≡ z → between (pos 0) (pos 7) z ≡ nat_lt i 8
 coordinate_test i z e = rw (sym e) (grind (arith, ints, nat_tests))

@@ -1,9 +1,5 @@
-use Rattle.std.proofs.Common.{Err, refl, rules}
+use Rattle.std.proofs.Common.{refl, rules}
 use Rattle.std.proofs.lemmas.Result.{err_from_is_err_and}
-use Rattle.refusals.specs.declared.Refusal.{Refusal}
-use Rattle.stores.specs.declared.cell_store.StoreRefusal.{StoreRefusal}
-use Rattle.stores.specs.Store.{Sets}
-use Rattle.sight.specs.Cells.{GivesKind}
 use Rattle.sight.proofs.Giving.{index_refused, index_accepted, outside_changes_nothing, never_bad, given, full_changes_nothing}
 use Rattle.sight.proofs.scan.Scan.give_kind.Goals as goal
 

@@ -1,4 +1,4 @@
-use Rattle.std.proofs.Common.{◌≡◌, ℕ, T, Bool, true, false, ◌&&◌, ℤ, pos, negsuc, ◌≤ℤ◌, Some, ap, ◌∙◌, subst, refl, rules, arith, w32, to_z, of_z}
+use Rattle.std.proofs.Common.{◌≡◌, T, Bool, true, false, ◌&&◌, ℤ, pos, negsuc, Some, ap, ◌∙◌, subst, refl, rules, arith, w32, to_z, of_z}
 use mathlib.Core.Path.{subst⁻¹}
 use lib.Ieee.{Float}
 use Rattle.std.proofs.lemmas.Int.{ints}
@@ -8,7 +8,6 @@ use Rattle.math.specs.Vectors.{vector, between}
 use Rattle.sight.specs.Power.{cube}
 use Rattle.grid.specs.Lawful.{exponent_fits, chunk_fits}
 use Rattle.grid.specs.declared.frame.ChunkFrame.{ChunkFrame}
-use Rattle.grid.proofs.Making.{exponent_range}
 use Rattle.sight.proofs.scan.Scan.new.Goals as goal
 
 and_false : (b : Bool) → (b && false) ≡ false
