@@ -26,7 +26,7 @@ impl Rotation {
     {
         Rotation {
             b: self.b.neg(),
-            w: self.w,
+            ..*self
         }
     }
 }

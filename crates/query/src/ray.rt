@@ -58,7 +58,7 @@ impl Ray {
     {
         Ray {
             origin: self.origin.add(v),
-            dir: self.dir,
+            ..*self
         }
     }
 
