@@ -39,7 +39,7 @@ fn ray_aabb(clip: LineClip, max_time_of_impact: f32, solid: bool) -> Option<Line
         });
     }
     let point = if inside { clip.far } else { clip.near };
-    Some(point).filter(|point| point.time <= max_time_of_impact)
+    (point.time <= max_time_of_impact).then_some(point)
 }
 
 impl RayCast for Aabb {
