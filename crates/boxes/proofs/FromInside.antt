@@ -9,7 +9,8 @@ use Rattle.math.specs.declared.Vector.{Vector}
 use Rattle.std.specs.Float as Floats
 use Rattle.boxes.specs.declared.aabb.Aabb.{Aabb}
 use Rattle.query.specs.declared.ray.Ray.{Ray}
-use Rattle.boxes.specs.declared.clip_aabb_line.LineClip.{LineClip}
+use Rattle.boxes.specs.declared.clip_aabb_line.Ends.{Ends}
+use Rattle.boxes.specs.declared.clip_aabb_line.LinePoint.{LinePoint}
 use Rattle.query.specs.Cast.{and_then}
 use Rattle.boxes.specs.Clip.{ray_parameters, clip_ray}
 use Rattle.boxes.proofs.Slabs.{Cuts, Still, Clipped, stands, passes, line_clipped}
@@ -26,13 +27,13 @@ pub record StartsAtZero (After : Float → Type 0) (b : Aabb) (r : Ray) : Type 0
   pub end_least : T (le zero end)
   pub end_after : Still r.dir ⊎ After end
 
-record AroundZero (After : Float → Type 0) (d : Vector) (c : LineClip) : Type 0 where
+record AroundZero (After : Float → Type 0) (d : Vector) (c : Ends LinePoint) : Type 0 where
   enters : T (le c.near.time zero)
   leaves : T (le zero c.far.time)
   after : Still d ⊎ After c.far.time
 
 module _ (After : Float → Type 0) (positive : (f : Float) → After f → T (lt zero f)) where
-  around_zero : (d : Vector) (c : LineClip) → Clipped ByZero After d c → AroundZero After d c
+  around_zero : (d : Vector) (c : Ends LinePoint) → Clipped ByZero After d c → AroundZero After d c
   around_zero d c (stands s e) = subst⁻¹ (AroundZero After d) e (record { enters = zero_le_zero; leaves = zero_le_zero; after = inl s })
   around_zero d c (passes n f) = record { enters = n; leaves = le_of_lt zero c.far.time (positive c.far.time f); after = inr f }
 
@@ -47,7 +48,7 @@ module _ (After : Float → Type 0) (positive : (f : Float) → After f → T (l
       record {
         start = Floats.float_max c.near.time zero;
         end = c.far.time;
-        clip = ap (λ (x : Option LineClip). and_then x ray_parameters) p.1 ∙ rw s;
+        clip = ap (λ (x : Option (Ends LinePoint)). and_then x ray_parameters) p.1 ∙ rw s;
         start_zero = most_zero_of_le c.near.time z.enters;
         end_least = z.leaves;
         end_after = z.after;

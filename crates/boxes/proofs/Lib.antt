@@ -1,2 +1,3 @@
 pub mod Slabs
 pub mod FromInside
+pub mod EndPoints

@@ -11,7 +11,7 @@ use Rattle.query.specs.declared.feature_id.FeatureId.TheVariants.{Face, Unknown}
 use Rattle.boxes.specs.declared.aabb.Aabb.{Aabb}
 use Rattle.boxes.specs.declared.clip_aabb_line.Side.{Side}
 use Rattle.boxes.specs.declared.clip_aabb_line.LinePoint.{LinePoint}
-use Rattle.boxes.specs.declared.clip_aabb_line.LineClip.{LineClip}
+use Rattle.boxes.specs.declared.clip_aabb_line.Ends.{Ends}
 use Rattle.query.specs.Cast.{and_then, hit}
 use Rattle.boxes.specs.Clip.{clip_line, side_number}
 
@@ -24,11 +24,11 @@ numbered_face (pos zero) = Unknown
 numbered_face (pos (suc n)) = Face n
 numbered_face (negsuc n) = Face (n + 3)
 
-abbrev pub side_feature : Side → FeatureId
+abbrev pub side_feature : Option Side → FeatureId
 side_feature s = numbered_face (side_number s)
 
 -- A ray from within a solid box hits at once; from within a hollow one it hits where it leaves; from outside, where it enters.
-unfoldable pub box_point : LineClip → Float → Bool → Option LinePoint
+unfoldable pub box_point : Ends LinePoint → Float → Bool → Option LinePoint
 box_point c reach solid =
     cond (lt c.near.time Single.zero)
     (cond solid (Some (record { time = Single.zero; normal = zero_vector; side = c.far.side }))

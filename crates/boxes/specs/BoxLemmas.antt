@@ -8,14 +8,14 @@ use Rattle.query.specs.declared.ray.Ray.{Ray}
 use Rattle.query.specs.declared.ray.RayIntersection.{RayIntersection}
 use Rattle.boxes.specs.declared.aabb.Aabb.{Aabb}
 use Rattle.boxes.specs.declared.clip_aabb_line.LinePoint.{LinePoint}
-use Rattle.boxes.specs.declared.clip_aabb_line.LineClip.{LineClip}
+use Rattle.boxes.specs.declared.clip_aabb_line.Ends.{Ends}
 use Rattle.query.specs.Cast.{and_then, Within}
 use Rattle.boxes.specs.Clip.{clip_line}
 use Rattle.boxes.specs.Box.{box_point, box_hit, box_cast}
 use Rattle.query.proofs.Options.{through}
 use Rattle.boxes.specs.ClipLemmas.{SoundClip, clip_sound}
 
-point_timed : (c : LineClip) (reach : Float) (solid : Bool) (p : LinePoint) → SoundClip c → NotBelowZero reach → box_point c reach solid ≡ Some p → Within p.time reach
+point_timed : (c : Ends LinePoint) (reach : Float) (solid : Bool) (p : LinePoint) → SoundClip c → NotBelowZero reach → box_point c reach solid ≡ Some p → Within p.time reach
 unfolding box_point
 point_timed c reach solid p s r e =
     let k : T (not (lt c.near.time zero)) → NotBelowZero c.near.time = le_of_not_lt c.near.time zero s.near_number zero_number in
@@ -25,7 +25,7 @@ point_timed c reach solid p s r e =
     let b : T (le p.time reach) = grind arith in
     (a, b)
 
-point_kept : (c : LineClip) (reach longer : Float) (solid : Bool) → T (le reach longer) → is_some (box_point c reach solid) ≡ true → is_some (box_point c longer solid) ≡ true
+point_kept : (c : Ends LinePoint) (reach longer : Float) (solid : Bool) → T (le reach longer) → is_some (box_point c reach solid) ≡ true → is_some (box_point c longer solid) ≡ true
 unfolding box_point
 point_kept c reach longer solid l e =
     let a : T (le c.near.time reach) → T (le c.near.time longer) = λ h. le_trans c.near.time reach longer h l in
@@ -49,6 +49,6 @@ box_kept b r reach longer solid l e = go (clip_line b r.origin r.dir) e
     same None = refl
     same (Some p) = refl
 
-    go : (o : Option LineClip) → is_some (and_then o (λ c. and_then (box_point c reach solid) box_hit)) ≡ true → is_some (and_then o (λ c. and_then (box_point c longer solid) box_hit)) ≡ true
+    go : (o : Option (Ends LinePoint)) → is_some (and_then o (λ c. and_then (box_point c reach solid) box_hit)) ≡ true → is_some (and_then o (λ c. and_then (box_point c longer solid) box_hit)) ≡ true
     go None e = e
     go (Some c) e = same (box_point c longer solid) ∙ point_kept c reach longer solid l (sym (same (box_point c reach solid)) ∙ e)

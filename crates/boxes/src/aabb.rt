@@ -7,7 +7,7 @@ use crate::clip_aabb_line::clip_aabb_line;
 use math::Vector;
 use query::ray::Ray;
 
-#[derive(Clone, Copy)]
+#[derive(Clone, Copy, PartialEq, Debug)]
 pub struct Aabb {
     pub mins: Vector,
     pub maxs: Vector,
@@ -30,22 +30,20 @@ impl Aabb {
     }
 
     // Whether the point lies within the box, faces included. A NaN is on no side of a face, so it passes.
+    #[tactic(auto, unfolding(crate::specs::Clip::contains))]
     pub fn contains_local_point(&self, point: Vector) -> bool
         ensures { result ≡ contains self.now point }
     {
-        if point.x < self.mins.x || point.x > self.maxs.x {
-            return false;
-        }
-        if point.y < self.mins.y || point.y > self.maxs.y {
-            return false;
-        }
-        if point.z < self.mins.z || point.z > self.maxs.z {
-            return false;
-        }
-        true
+        !(point.x < self.mins.x
+            || point.x > self.maxs.x
+            || point.y < self.mins.y
+            || point.y > self.maxs.y
+            || point.z < self.mins.z
+            || point.z > self.maxs.z)
     }
 
     // The times from which and until which a ray is within the box; none where it never is.
+    #[tactic(auto, unfolding(crate::specs::Clip::clip_ray))]
     pub fn clip_ray_parameters(&self, ray: &Ray) -> Option<(f32, f32)>
         ensures { result ≡ clip_ray self.now ray.now }
     {

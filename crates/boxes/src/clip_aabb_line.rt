@@ -1,249 +1,207 @@
 // The part of a line that lies within a box.
 ghost use Rattle.std.specs.Prelude.{◌≡◌};
-ghost use Rattle.boxes.specs.Clip.{side_number, or_edge, later_entry, earlier_exit, unless_empty, cut_by_slab, clip_axis, clip_slabs, near_normal, far_normal, inside_only, clip_line};
+ghost use Rattle.boxes.specs.Clip.{side_number, at_face, cut_end, unless_empty, cut_by_slab, clip_along, clip_slabs, end_point, inside_only, clip_line};
 
 use crate::aabb::Aabb;
 use math::{Axis, Vector};
 
 // A side of a box: the face at the minimum or at the maximum of an axis.
-// `Inside` stands where no face was passed, since the direction is zero or no number and the origin is in the box.
-#[derive(Clone, Copy)]
+#[derive(Clone, Copy, PartialEq, Eq, Debug)]
 pub enum Side {
-    Inside,
     Low(Axis),
     High(Axis),
 }
 
-impl Side {
-    // 0 where no face was passed, 1 to 3 for the low faces of x, y and z, -1 to -3 for the high ones.
-    pub fn number(self) -> i32
-        ensures { result ≡ side_number self }
-    {
-        match self {
-            Side::Inside => 0,
-            Side::Low(Axis::X) => 1,
-            Side::Low(Axis::Y) => 2,
-            Side::Low(Axis::Z) => 3,
-            Side::High(Axis::X) => -1,
-            Side::High(Axis::Y) => -2,
-            Side::High(Axis::Z) => -3,
-        }
+// 0 where no face was passed, 1 to 3 for the low faces of x, y and z, -1 to -3 for the high ones.
+pub fn side_number(side: Option<Side>) -> i32
+    ensures { result ≡ side_number side }
+{
+    match side {
+        None => 0,
+        Some(Side::Low(Axis::X)) => 1,
+        Some(Side::Low(Axis::Y)) => 2,
+        Some(Side::Low(Axis::Z)) => 3,
+        Some(Side::High(Axis::X)) => -1,
+        Some(Side::High(Axis::Y)) => -2,
+        Some(Side::High(Axis::Z)) => -3,
     }
 }
 
-// An end of the line so far: where `edge` is set, two slabs have it at the same time.
-#[derive(Clone, Copy)]
+// The two ends of a part of a line.
+#[derive(Clone, Copy, PartialEq, Debug)]
+pub struct Ends<T> {
+    pub near: T,
+    pub far: T,
+}
+
+// An end of the line so far: its side is none where no face was passed yet.
+// Where `edge` is set, two slabs have it at the same time.
+#[derive(Clone, Copy, PartialEq, Debug)]
 pub struct Bound {
     pub time: f32,
-    pub side: Side,
+    pub side: Option<Side>,
     pub edge: bool,
 }
 
 // What the slabs so far leave of the line.
-#[derive(Clone, Copy)]
-pub struct Interval {
-    pub near: Bound,
-    pub far: Bound,
-}
+pub type Interval = Ends<Bound>;
 
-// An end of the clipped line: `origin + dir * time`, the normal of the face there, and which face it is.
-#[derive(Clone, Copy)]
+// An end of the clipped line: `origin + dir * time`, the normal of the face there, and which face it is:
+// none where no face was passed, since the direction is zero or no number and the origin is in the box.
+#[derive(Clone, Copy, PartialEq, Debug)]
 pub struct LinePoint {
     pub time: f32,
     pub normal: Vector,
-    pub side: Side,
+    pub side: Option<Side>,
 }
 
-#[derive(Clone, Copy)]
-pub struct LineClip {
-    pub near: LinePoint,
-    pub far: LinePoint,
-}
+pub type LineClip = Ends<LinePoint>;
 
-// The end so far, on an edge where another slab has it at the same time.
-fn or_edge(bound: Bound, time: f32) -> Bound
-    ensures { result ≡ or_edge bound time }
+fn at_face(time: f32, side: Side) -> Bound
+    ensures { result ≡ at_face time side }
 {
-    if time == bound.time {
-        Bound {
-            time: bound.time,
-            side: bound.side,
-            edge: true,
-        }
-    } else {
-        bound
+    Bound {
+        time,
+        side: Some(side),
+        edge: false,
     }
 }
 
-fn later_entry(bound: Bound, time: f32, side: Side) -> Bound
-    ensures { result ≡ later_entry bound time side }
+// The end so far, or the face in its place where that cuts off more. It is on an edge where both have the same time.
+#[tactic(auto, unfolding(crate::specs::Clip::or_edge))]
+fn cut_end(end: Bound, face: Bound, cuts_more: bool) -> Bound
+    ensures { result ≡ cut_end end face cuts_more }
 {
-    if time > bound.time {
-        Bound {
-            time,
-            side,
-            edge: false,
-        }
+    if cuts_more {
+        face
+    } else if face.time == end.time {
+        Bound { edge: true, ..end }
     } else {
-        or_edge(bound, time)
+        end
     }
 }
 
-fn earlier_exit(bound: Bound, time: f32, side: Side) -> Bound
-    ensures { result ≡ earlier_exit bound time side }
-{
-    if time < bound.time {
-        Bound {
-            time,
-            side,
-            edge: false,
-        }
-    } else {
-        or_edge(bound, time)
-    }
-}
-
+#[tactic(auto, unfolding(crate::specs::Clip::unless_empty))]
 fn unless_empty(interval: Interval) -> Option<Interval>
     ensures { result ≡ unless_empty interval }
 {
-    if interval.far.time < 0.0 || interval.near.time > interval.far.time {
-        None
-    } else {
-        Some(interval)
-    }
+    let empty = interval.far.time < 0.0 || interval.near.time > interval.far.time;
+    (!empty).then_some(interval)
 }
 
 // The line is at the low face at `low`, and at the high one at `high`.
+#[tactic(auto, unfolding(crate::specs::Clip::cut_by_slab, crate::specs::Clip::later_entry, crate::specs::Clip::earlier_exit))]
 fn cut_by_slab(interval: Interval, axis: Axis, low: f32, high: f32) -> Option<Interval>
     ensures { result ≡ cut_by_slab interval axis low high }
 {
-    if low > high {
-        unless_empty(Interval {
-            near: later_entry(interval.near, high, Side::High(axis)),
-            far: earlier_exit(interval.far, low, Side::Low(axis)),
-        })
+    let low = at_face(low, Side::Low(axis));
+    let high = at_face(high, Side::High(axis));
+    let (first, last) = if low.time > high.time {
+        (high, low)
     } else {
-        unless_empty(Interval {
-            near: later_entry(interval.near, low, Side::Low(axis)),
-            far: earlier_exit(interval.far, high, Side::High(axis)),
-        })
-    }
+        (low, high)
+    };
+    unless_empty(Ends {
+        near: cut_end(interval.near, first, first.time > interval.near.time),
+        far: cut_end(interval.far, last, last.time < interval.far.time),
+    })
 }
 
-fn clip_axis(
-    interval: Interval,
+// What the slab between the two faces of an axis leaves; a line along it is within it or not.
+#[tactic(auto, unfolding(crate::specs::Clip::clip_axis))]
+fn clip_along(
+    aabb: &Aabb,
+    origin: Vector,
+    dir: Vector,
     axis: Axis,
-    low: f32,
-    high: f32,
-    origin: f32,
-    dir: f32,
+    interval: Interval,
 ) -> Option<Interval>
-    ensures { result ≡ clip_axis interval axis low high origin dir }
+    ensures { result ≡ clip_along aabb.now origin dir axis interval }
 {
+    let low = aabb.mins.vget(axis);
+    let high = aabb.maxs.vget(axis);
+    let origin = origin.vget(axis);
+    let dir = dir.vget(axis);
     if dir == 0.0 {
-        if origin < low || origin > high {
-            None
-        } else {
-            Some(interval)
-        }
-    } else {
-        let denom = 1.0 / dir;
-        cut_by_slab(
-            interval,
-            axis,
-            (low - origin) * denom,
-            (high - origin) * denom,
-        )
+        let outside = origin < low || origin > high;
+        return (!outside).then_some(interval);
     }
+    let denom = 1.0 / dir;
+    cut_by_slab(
+        interval,
+        axis,
+        (low - origin) * denom,
+        (high - origin) * denom,
+    )
 }
 
 fn clip_slabs(aabb: &Aabb, origin: Vector, dir: Vector) -> Option<Interval>
     ensures { result ≡ clip_slabs aabb.now origin dir }
 {
-    let line = Interval {
-        near: Bound {
-            time: -f32::MAX,
-            side: Side::Inside,
-            edge: false,
-        },
-        far: Bound {
-            time: f32::MAX,
-            side: Side::Inside,
-            edge: false,
-        },
+    let far = Bound {
+        time: f32::MAX,
+        side: None,
+        edge: false,
     };
-    let line = clip_axis(line, Axis::X, aabb.mins.x, aabb.maxs.x, origin.x, dir.x)?;
-    let line = clip_axis(line, Axis::Y, aabb.mins.y, aabb.maxs.y, origin.y, dir.y)?;
-    clip_axis(line, Axis::Z, aabb.mins.z, aabb.maxs.z, origin.z, dir.z)
+    let near = Bound {
+        time: -f32::MAX,
+        ..far
+    };
+    let line = clip_along(aabb, origin, dir, Axis::X, Ends { near, far })?;
+    let line = clip_along(aabb, origin, dir, Axis::Y, line)?;
+    clip_along(aabb, origin, dir, Axis::Z, line)
 }
 
-// The normal at the entry, out of the box; over an edge it is against the direction. None where no face was passed.
-fn near_normal(bound: Bound, dir: Vector) -> Option<Vector>
-    ensures { result ≡ near_normal bound dir }
+// The end with its normal: of length `low` along the axis at a low face, and as much the other way at a high one.
+// Over an edge the normal is against the direction. None where no face was passed.
+#[tactic(auto, unfolding(crate::specs::Clip::end_point))]
+fn end_point(end: Bound, dir: Vector, low: f32) -> Option<LinePoint>
+    ensures { result ≡ end_point end dir low }
 {
-    if bound.edge {
-        return Some(dir.normalize().neg());
-    }
-    match bound.side {
-        Side::Inside => None,
-        Side::Low(axis) => Some(Vector::on_axis(axis, -1.0)),
-        Side::High(axis) => Some(Vector::on_axis(axis, 1.0)),
-    }
+    let normal = if end.edge {
+        dir.normalize().neg()
+    } else {
+        match end.side? {
+            Side::Low(axis) => Vector::on_axis(axis, low),
+            Side::High(axis) => Vector::on_axis(axis, -low),
+        }
+    };
+    Some(LinePoint {
+        time: end.time,
+        normal,
+        side: end.side,
+    })
 }
 
-// The normal at the exit, into the box; over an edge it is against the direction. None where no face was passed.
-fn far_normal(bound: Bound, dir: Vector) -> Option<Vector>
-    ensures { result ≡ far_normal bound dir }
-{
-    if bound.edge {
-        return Some(dir.normalize().neg());
-    }
-    match bound.side {
-        Side::Inside => None,
-        Side::Low(axis) => Some(Vector::on_axis(axis, 1.0)),
-        Side::High(axis) => Some(Vector::on_axis(axis, -1.0)),
-    }
-}
-
+#[tactic(auto, unfolding(crate::specs::Clip::inside_only))]
 fn inside_only(aabb: &Aabb, origin: Vector) -> Option<LineClip>
     ensures { result ≡ inside_only aabb.now origin }
 {
-    if !aabb.contains_local_point(origin) {
-        return None;
-    }
-    let zero = LinePoint {
+    let at_origin = LinePoint {
         time: 0.0,
         normal: Vector::zero(),
-        side: Side::Inside,
+        side: None,
     };
-    Some(LineClip {
-        near: zero,
-        far: zero,
-    })
+    let ends = Ends {
+        near: at_origin,
+        far: at_origin,
+    };
+    aabb.contains_local_point(origin).then_some(ends)
 }
 
 // The two ends of the line's part within the box, none where the line misses the box or lies wholly before its origin.
 // Where the direction is zero or no number, both ends are the origin, if it is in the box.
+#[tactic(auto, using(crate::proofs::EndPoints::near_end, crate::proofs::EndPoints::far_end), unfolding(crate::specs::Clip::clip_line))]
 pub fn clip_aabb_line(aabb: &Aabb, origin: Vector, dir: Vector) -> Option<LineClip>
     ensures { result ≡ clip_line aabb.now origin dir }
 {
     let line = clip_slabs(aabb, origin, dir)?;
-    let Some(near) = near_normal(line.near, dir) else {
-        return inside_only(aabb, origin);
-    };
-    let Some(far) = far_normal(line.far, dir) else {
-        return inside_only(aabb, origin);
-    };
-    Some(LineClip {
-        near: LinePoint {
-            time: line.near.time,
-            normal: near,
-            side: line.near.side,
-        },
-        far: LinePoint {
-            time: line.far.time,
-            normal: far,
-            side: line.far.side,
-        },
-    })
+    // The normal is out of the box at the entry, and into it at the exit.
+    match (
+        end_point(line.near, dir, -1.0),
+        end_point(line.far, dir, 1.0),
+    ) {
+        (Some(near), Some(far)) => Some(Ends { near, far }),
+        _ => inside_only(aabb, origin),
+    }
 }

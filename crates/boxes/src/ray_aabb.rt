@@ -1,5 +1,5 @@
 // The cast of a box.
-ghost use Rattle.std.specs.Prelude.{◌≡◌};
+ghost use Rattle.std.specs.Prelude.{◌≡◌, Some};
 ghost use Rattle.boxes.specs.Box.{side_feature, box_point, box_cast};
 ghost use Rattle.boxes.specs.BoxLemmas.{box_timed, box_kept};
 
@@ -10,40 +10,36 @@ use query::feature_id::FeatureId;
 use query::ray::{Ray, RayCast, RayIntersection};
 
 // The face of a side: 0 to 2 at the minimum of x, y and z, 3 to 5 at the maximum.
-fn side_feature(side: Side) -> FeatureId
-    ensures { result ≡ side_feature side }
-{
-    match side {
-        Side::Inside => FeatureId::Unknown,
-        Side::Low(Axis::X) => FeatureId::Face(0),
-        Side::Low(Axis::Y) => FeatureId::Face(1),
-        Side::Low(Axis::Z) => FeatureId::Face(2),
-        Side::High(Axis::X) => FeatureId::Face(3),
-        Side::High(Axis::Y) => FeatureId::Face(4),
-        Side::High(Axis::Z) => FeatureId::Face(5),
+impl From<Side> for FeatureId {
+    ghost from_gives = { λ side feature. feature ≡ side_feature (Some side) };
+
+    fn from(side: Side) -> FeatureId {
+        match side {
+            Side::Low(Axis::X) => FeatureId::Face(0),
+            Side::Low(Axis::Y) => FeatureId::Face(1),
+            Side::Low(Axis::Z) => FeatureId::Face(2),
+            Side::High(Axis::X) => FeatureId::Face(3),
+            Side::High(Axis::Y) => FeatureId::Face(4),
+            Side::High(Axis::Z) => FeatureId::Face(5),
+        }
     }
 }
 
+#[tactic(auto, unfolding(crate::specs::Box::box_point))]
 fn ray_aabb(clip: LineClip, max_time_of_impact: f32, solid: bool) -> Option<LinePoint>
     ensures { result ≡ box_point clip max_time_of_impact solid }
 {
-    if clip.near.time < 0.0 {
-        if solid {
-            Some(LinePoint {
-                time: 0.0,
-                normal: Vector::zero(),
-                side: clip.far.side,
-            })
-        } else if clip.far.time <= max_time_of_impact {
-            Some(clip.far)
-        } else {
-            None
-        }
-    } else if clip.near.time <= max_time_of_impact {
-        Some(clip.near)
-    } else {
-        None
+    let inside = clip.near.time < 0.0;
+    // A ray from within a solid box hits at once.
+    if inside && solid {
+        return Some(LinePoint {
+            time: 0.0,
+            normal: Vector::zero(),
+            ..clip.far
+        });
     }
+    let point = if inside { clip.far } else { clip.near };
+    (point.time <= max_time_of_impact).then_some(point)
 }
 
 impl RayCast for Aabb {
@@ -53,6 +49,7 @@ impl RayCast for Aabb {
 
     ghost kept = { λ b r reach longer solid n. box_kept b r reach longer solid };
 
+    #[tactic(auto, unfolding(crate::specs::Box::box_cast))]
     fn cast_local_ray_and_get_normal(
         &self,
         ray: &Ray,
@@ -61,6 +58,7 @@ impl RayCast for Aabb {
     ) -> Option<RayIntersection> {
         let clip = clip_aabb_line(self, ray.origin, ray.dir)?;
         let point = ray_aabb(clip, max_time_of_impact, solid)?;
-        Some(RayIntersection::new(point.time, point.normal, side_feature(point.side)))
+        let feature = point.side.map_or(FeatureId::Unknown, FeatureId::from);
+        Some(RayIntersection::new(point.time, point.normal, feature))
     }
 }

@@ -7,7 +7,6 @@ use query::ray::{Ray, RayCast, RayIntersection};
 use refusals::Refusal;
 use sight::grid_point::GridPoint;
 use sight::scan::Scan;
-use std::process::Abort;
 use std::test::Fail;
 use stores::cell_store::{CellStore, StoreRefusal};
 use stores::few_store::FewStore;
@@ -15,20 +14,9 @@ use stores::table_store::TableStore;
 use voxels::chunk::Chunk;
 use voxels::chunk_cast::ChunkCast;
 
-fn check_hit(
-    rt: &impl Abort,
-    hit: Option<RayIntersection>,
-    time: f32,
-    normal: Vector,
-    feature: FeatureId,
-) -> Result<(), Fail> {
-    let hit = hit.ok_or("no hit")?;
-    assert_eq!(rt; hit.time_of_impact, time);
-    assert_eq!(rt; hit.normal.x, normal.x);
-    assert_eq!(rt; hit.normal.y, normal.y);
-    assert_eq!(rt; hit.normal.z, normal.z);
-    assert_eq!(rt; hit.feature, feature);
-    Ok(())
+// A hit on a face whose normal is against x.
+fn left_face(time: f32, face: u32) -> Option<RayIntersection> {
+    Some(RayIntersection::new(time, Vector::new(-1.0, 0.0, 0.0), FeatureId::Face(face)))
 }
 
 // The box from (-1, -1, -1) to (1, 1, 1).
@@ -44,17 +32,10 @@ fn along_x(x: f32) -> Ray {
 fn box_from_outside(rt: HostRuntime) -> Result<(), Fail> {
     let ray = along_x(-3.0);
     let hit = cube_at_origin().cast_local_ray_and_get_normal(&ray, 2.0, true);
-    check_hit(
-        &rt,
-        hit,
-        2.0,
-        Vector::new(-1.0, 0.0, 0.0),
-        FeatureId::Face(0),
-    )?;
-    assert!(rt;
-        cube_at_origin()
-            .cast_local_ray_and_get_normal(&ray, 1.5, true)
-            .is_none()
+    assert_eq!(rt; hit, left_face(2.0, 0));
+    assert_eq!(rt;
+        cube_at_origin().cast_local_ray_and_get_normal(&ray, 1.5, true),
+        None
     );
     Ok(())
 }
@@ -63,23 +44,23 @@ fn box_from_outside(rt: HostRuntime) -> Result<(), Fail> {
 fn box_from_inside(rt: HostRuntime) -> Result<(), Fail> {
     let ray = along_x(0.0);
     let hit = cube_at_origin().cast_local_ray_and_get_normal(&ray, 10.0, true);
-    check_hit(&rt, hit, 0.0, Vector::zero(), FeatureId::Face(3))?;
-    let hit = cube_at_origin().cast_local_ray_and_get_normal(&ray, 10.0, false);
-    check_hit(
-        &rt,
+    assert_eq!(rt;
         hit,
-        1.0,
-        Vector::new(-1.0, 0.0, 0.0),
-        FeatureId::Face(3),
-    )?;
-    assert!(rt;
-        cube_at_origin()
-            .cast_local_ray_and_get_normal(&ray, 0.5, false)
-            .is_none()
+        Some(RayIntersection::new(0.0, Vector::zero(), FeatureId::Face(3)))
+    );
+    let hit = cube_at_origin().cast_local_ray_and_get_normal(&ray, 10.0, false);
+    assert_eq!(rt; hit, left_face(1.0, 3));
+    assert_eq!(rt;
+        cube_at_origin().cast_local_ray_and_get_normal(&ray, 0.5, false),
+        None
     );
     let still = Ray::new(Vector::zero(), Vector::zero());
     let hit = cube_at_origin().cast_local_ray_and_get_normal(&still, 10.0, true);
-    check_hit(&rt, hit, 0.0, Vector::zero(), FeatureId::Unknown)
+    assert_eq!(rt;
+        hit,
+        Some(RayIntersection::new(0.0, Vector::zero(), FeatureId::Unknown))
+    );
+    Ok(())
 }
 
 fn grid_point(x: i32, y: i32, z: i32) -> Result<GridPoint, Refusal> {
@@ -100,23 +81,11 @@ fn look_past(cell: IVector, target: &GridPoint) -> Result<ChunkCast, Refusal> {
 #[test]
 fn looks(rt: HostRuntime) -> Result<(), Fail> {
     let cast = look_past(IVector { x: 3, y: 0, z: 0 }, &grid_point(576, 64, 64)?)?;
-    check_hit(
-        &rt,
-        cast.hit,
-        0.625,
-        Vector::new(-1.0, 0.0, 0.0),
-        FeatureId::Face(3),
-    )?;
+    assert_eq!(rt; cast.hit, left_face(0.625, 3));
     assert_eq!(rt; cast.visited, 4);
     let across = grid_point(192, 192, 64)?;
     let cast = look_past(IVector { x: 1, y: 0, z: 0 }, &across)?;
-    check_hit(
-        &rt,
-        cast.hit,
-        0.5,
-        Vector::new(-1.0, 0.0, 0.0),
-        FeatureId::Face(1),
-    )?;
+    assert_eq!(rt; cast.hit, left_face(0.5, 1));
     assert_eq!(rt; cast.visited, 2);
     let cast = look_past(IVector { x: 0, y: 1, z: 0 }, &across)?;
     assert!(rt; cast.hit.is_none());
@@ -147,13 +116,9 @@ fn face_behind_the_origin(rt: HostRuntime) -> Result<(), Fail> {
     );
     for solid in [true, false] {
         let cast = chunk.cast_ray(&ray, 10.0, solid);
-        check_hit(
-            &rt,
-            cast.hit,
-            3.0 + 2.0 * FINE,
-            Vector::new(1.0, 0.0, 0.0),
-            FeatureId::Face(2),
-        )?;
+        let normal = Vector::new(1.0, 0.0, 0.0);
+        let hit = RayIntersection::new(3.0 + 2.0 * FINE, normal, FeatureId::Face(2));
+        assert_eq!(rt; cast.hit, Some(hit));
         assert_eq!(rt; cast.visited, 4);
     }
     Ok(())
@@ -206,7 +171,8 @@ fn full_corner_from_six_sides(rt: HostRuntime) -> Result<(), Fail> {
     ];
     for (origin, normal, cell, visited) in sides {
         let cast = chunk.cast_ray(&Ray::new(origin, normal.neg()), 10.0, true);
-        check_hit(&rt, cast.hit, 3.0, normal, FeatureId::Face(cell))?;
+        let hit = RayIntersection::new(3.0, normal, FeatureId::Face(cell));
+        assert_eq!(rt; cast.hit, Some(hit));
         assert_eq!(rt; cast.visited, visited);
     }
     Ok(())
@@ -288,15 +254,10 @@ fn same_looks_over_both_stores(rt: HostRuntime) -> Result<(), Fail> {
             let seen = few.look(&camera, &target);
             let known = table.look(&camera, &target);
             assert_eq!(rt; seen.visited, known.visited);
+            assert_eq!(rt; seen.hit, known.hit);
             match known.hit {
-                Some(hit) => {
-                    check_hit(&rt, seen.hit, hit.time_of_impact, hit.normal, hit.feature)?;
-                    blocked = true;
-                }
-                None => {
-                    assert!(rt; seen.hit.is_none());
-                    clear = true;
-                }
+                Some(_) => blocked = true,
+                None => clear = true,
             }
         }
     }

@@ -1,6 +1,6 @@
 // The answer to what a vector line asks.
 use crate::case::{Asked, Case};
-use boxes::clip_aabb_line::{LinePoint, clip_aabb_line};
+use boxes::clip_aabb_line::{LinePoint, clip_aabb_line, side_number};
 use grid::frame::ChunkFrame;
 use math::{IVector, Vector};
 use query::feature_id::FeatureId;
@@ -50,7 +50,7 @@ fn hit_text(heap: Global, hit: Option<RayIntersection>) -> Result<String, AllocE
 fn end_text(heap: Global, end: LinePoint) -> Result<String, AllocError> {
     let time = number_bits(end.time);
     let normal = vector_text(heap, end.normal)?;
-    let side = end.side.number();
+    let side = side_number(end.side);
     format!(in heap; "{time:08x} {normal} {side}")
 }
 

@@ -10,10 +10,11 @@ use Rattle.math.specs.declared.Axis.TheVariants as MathAxis
 use Rattle.math.specs.Vectors.{zero_vector}
 use Rattle.boxes.specs.declared.aabb.Aabb.{Aabb}
 use Rattle.query.specs.declared.ray.Ray.{Ray}
-use Rattle.boxes.specs.declared.clip_aabb_line.LineClip.{LineClip}
+use Rattle.boxes.specs.declared.clip_aabb_line.Ends.{Ends}
+use Rattle.boxes.specs.declared.clip_aabb_line.LinePoint.{LinePoint}
 use Rattle.query.specs.Cast.{and_then}
 use Rattle.boxes.specs.Box.{box_point, box_hit, box_cast}
-use Rattle.boxes.proofs.Slabs.{Ends, Cut, level, up, down, Cuts, Clipped, stands, passes, line_clipped}
+use Rattle.boxes.proofs.Slabs.{AtFaces, Cut, level, up, down, Cuts, Clipped, stands, passes, line_clipped}
 use Rattle.grid.specs.declared.frame.ChunkFrame.{ChunkFrame}
 use Rattle.grid.specs.Lawful.{exponent_fits}
 use Rattle.grid.specs.Frame.{cell_box}
@@ -60,7 +61,7 @@ face_within p q v limit h l z late (ahead s n c) = le_of_lt v limit (late s p q 
 face_within p q v limit h l z late (behind e b w) = le_trans v zero limit (le_of_lt v zero b) z
 
 -- ---- a solid box is hit where the near end of its clip is within reach
-near_is_hit : (c : LineClip) (reach : Float) → T (le c.near.time reach) → is_some (and_then (box_point c reach true) box_hit) ≡ true
+near_is_hit : (c : Ends LinePoint) (reach : Float) → T (le c.near.time reach) → is_some (and_then (box_point c reach true) box_hit) ≡ true
 unfolding box_point
 near_is_hit c reach h = go (lt c.near.time zero) (le c.near.time reach) (is_true (le c.near.time reach) h)
   where
@@ -111,7 +112,7 @@ module _ (o t : Point) (c : Cell) (b : Aabb) (r : Ray) (limit : Float) (O : InGr
         before_far = λ j f q w. face_before (near_on o t c i) (span_on o t i) (far_on o t c j) (span_on o t j) n f m q (omega arith) (span_bound j) (far_ahead j q) (in_order.near_before_far i j m q) a w;
       }
 
-  ends : (i : Axis) (n f : Float) → 0 < span_on o t i → FaceTime (near_on o t c i) (span_on o t i) n → FaceTime (far_on o t c i) (span_on o t i) f → Ends Before After n f
+  ends : (i : Axis) (n f : Float) → 0 < span_on o t i → FaceTime (near_on o t c i) (span_on o t i) n → FaceTime (far_on o t c i) (span_on o t i) f → AtFaces Before After n f
   ends i n f m a w =
       let target = in_order.near_before_target i m in
       let s = span_bound i in
@@ -139,10 +140,10 @@ module _ (o t : Point) (c : Cell) (b : Aabb) (r : Ray) (limit : Float) (O : InGr
   unfolding box_cast
   open_is_hit =
       let p = line_clipped Before After ordered positive b r.origin r.dir lowest_before (inl refl) cuts in
-      ap (λ (x : Option LineClip). is_some (and_then x (λ k. and_then (box_point k limit true) box_hit))) p.1 ∙ near_is_hit p.0 limit (near_within p.0 p.2)
+      ap (λ (x : Option (Ends LinePoint)). is_some (and_then x (λ k. and_then (box_point k limit true) box_hit))) p.1 ∙ near_is_hit p.0 limit (near_within p.0 p.2)
     where
-      near_within : (k : LineClip) → Clipped Before After r.dir k → T (le k.near.time limit)
-      near_within k (stands s e) = subst⁻¹ (λ (j : LineClip). T (le j.near.time limit)) e not_below
+      near_within : (k : Ends LinePoint) → Clipped Before After r.dir k → T (le k.near.time limit)
+      near_within k (stands s e) = subst⁻¹ (λ (j : Ends LinePoint). T (le j.near.time limit)) e not_below
       near_within k (passes n f) = n.within
 
 -- ---- the look

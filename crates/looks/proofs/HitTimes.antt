@@ -13,9 +13,8 @@ use Rattle.query.specs.declared.ray.Ray.{Ray}
 use Rattle.query.specs.declared.ray.RayIntersection.{RayIntersection}
 use Rattle.boxes.specs.declared.clip_aabb_line.Side.{Side}
 use Rattle.boxes.specs.declared.clip_aabb_line.Bound.{Bound}
-use Rattle.boxes.specs.declared.clip_aabb_line.Interval.{Interval}
+use Rattle.boxes.specs.declared.clip_aabb_line.Ends.{Ends}
 use Rattle.boxes.specs.declared.clip_aabb_line.LinePoint.{LinePoint}
-use Rattle.boxes.specs.declared.clip_aabb_line.LineClip.{LineClip}
 use Rattle.query.specs.Cast.{and_then}
 use Rattle.boxes.specs.Clip.{or_edge, later_entry, earlier_exit, unless_empty, clip_slabs, contains, clip_line}
 use Rattle.boxes.specs.Box.{box_point, box_hit, box_cast}
@@ -38,19 +37,19 @@ unfolding later_entry or_edge
 entry_is_one b t s = met_at_one (lt b.time t) (eq t b.time) b t s
 
 -- ---- one axis
-record Step (low high o d : Float) (i j : Interval) : Type 0 where
+record Step (low high o d : Float) (i j : Ends Bound) : Type 0 where
   number : Number j.near.time
   grows : T (le i.near.time j.near.time)
   reaches : eq d zero ≡ false → T (le (first_face low high o d) j.near.time)
   attains : (j.near.time ≡ i.near.time) ⊎ ((eq d zero ≡ false) × (j.near.time ≡ first_face low high o d))
 
-kept_near : (i j : Interval) → unless_empty i ≡ Some j → i.near.time ≡ j.near.time
+kept_near : (i j : Ends Bound) → unless_empty i ≡ Some j → i.near.time ≡ j.near.time
 unfolding unless_empty
 kept_near i j e = grind arith
 
-axis_step : {low high o d : Float} {i j : Interval} → Number i.near.time → (eq d zero ≡ false → Number (first_face low high o d)) → Leaves low high o d i j → Step low high o d i j
+axis_step : {low high o d : Float} {i j : Ends Bound} → Number i.near.time → (eq d zero ≡ false → Number (first_face low high o d)) → Leaves low high o d i j → Step low high o d i j
 axis_step {low} {high} {o} {d} {i} {j} N M (all z same) =
-    subst (λ (k : Interval). Step low high o d i k) same (record { number = N; grows = le_refl i.near.time N; reaches = λ m. absurd (true≢false (sym z ∙ m)); attains = inl refl })
+    subst (λ (k : Ends Bound). Step low high o d i k) same (record { number = N; grows = le_refl i.near.time N; reaches = λ m. absurd (true≢false (sym z ∙ m)); attains = inl refl })
 axis_step {low} {high} {o} {d} {i} {j} N M (between s r z e) =
     let n = first_face low high o d in
     let w = kept_near (record { near = later_entry i.near n s; far = earlier_exit i.far (last_face low high o d) r }) j e in
@@ -78,7 +77,7 @@ pub record LatestFace (b : Aabb) (o d : Vector) (n : Float) : Type 0 where
   pub reached : (a : Axis) → Moves d a → T (le (first_face_on b o d a) n)
   pub attained : (n ≡ neg largest) ⊎ ((a : Axis) × Moves d a × (n ≡ first_face_on b o d a))
 
-slabs_latest : (b : Aabb) (o d : Vector) (i : Interval) → ((a : Axis) → Moves d a → Number (first_face_on b o d a)) → clip_slabs b o d ≡ Some i → LatestFace b o d i.near.time
+slabs_latest : (b : Aabb) (o d : Vector) (i : Ends Bound) → ((a : Axis) → Moves d a → Number (first_face_on b o d a)) → clip_slabs b o d ≡ Some i → LatestFace b o d i.near.time
 slabs_latest b o d i N e =
     let p = slabs_leave b o d i e in
     let u = axis_step (lt_left (neg largest) zero lowest_below_zero) (N X) p.2 in
@@ -115,8 +114,8 @@ data NearEnd (b : Aabb) (o d : Vector) (n : Float) : Type 0 where
   contained : contains b o ≡ true → n ≡ zero → NearEnd b o d n
   at_face : LatestFace b o d n → NearEnd b o d n
 
-line_near : (b : Aabb) (o d : Vector) (c : LineClip) → ((a : Axis) → Moves d a → Number (first_face_on b o d a)) → LineEnds b o d c → NearEnd b o d c.near.time
-line_near b o d c N (at_origin h e) = contained h (ap (λ (k : LineClip). k.near.time) e)
+line_near : (b : Aabb) (o d : Vector) (c : Ends LinePoint) → ((a : Axis) → Moves d a → Number (first_face_on b o d a)) → LineEnds b o d c → NearEnd b o d c.near.time
+line_near b o d c N (at_origin h e) = contained h (ap (λ (k : Ends LinePoint). k.near.time) e)
 line_near b o d c N (of_slabs i h n f) = at_face (subst (LatestFace b o d) n (slabs_latest b o d i N h))
 
 -- a hit is at zero where the line starts in the box or past its near faces, else at the latest of these
@@ -125,7 +124,7 @@ pub data HitTime (b : Aabb) (o d : Vector) (t : Float) : Type 0 where
   past_faces : (n : Float) → LatestFace b o d n → T (lt n zero) → t ≡ zero → HitTime b o d t
   at_latest : LatestFace b o d t → T (not (lt t zero)) → HitTime b o d t
 
-point_time : (c : LineClip) (reach : Float) (p : LinePoint) → box_point c reach true ≡ Some p
+point_time : (c : Ends LinePoint) (reach : Float) (p : LinePoint) → box_point c reach true ≡ Some p
     → (T (lt c.near.time zero) × (p.time ≡ zero)) ⊎ (T (not (lt c.near.time zero)) × (p.time ≡ c.near.time))
 unfolding box_point
 point_time c reach p e = go (lt c.near.time zero) (le c.near.time reach) e

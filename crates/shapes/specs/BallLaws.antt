@@ -1,5 +1,5 @@
 -- The two laws of the casts of a ball and of a bounding sphere.
-use Rattle.std.specs.Prelude.{◌≡◌, Bool, true, T, is_some, Some, Option, Float}
+use Rattle.std.specs.Prelude.{◌≡◌, Bool, true, T, is_some, Some, Option, option_map, Float}
 use Rattle.std.specs.Float.Ieee.{le}
 use Rattle.scalar.specs.Single.{NotBelowZero}
 use Rattle.math.specs.Vectors.{vneg, zero_vector}
@@ -14,7 +14,7 @@ use Rattle.shapes.specs.BoundingSphere.{bounding_sphere_cast}
 use Rattle.shapes.specs.ReachLaws.{ahead_is_ahead, up_to_timed, up_to_kept}
 
 abbrev found : Ball → Ray → Bool → Option RayIntersection
-found b r solid = (ball_hit zero_vector b.radius r solid).1
+found b r solid = option_map (λ h. h.at) (ball_hit zero_vector b.radius r solid)
 
 pub ball_timed : (b : Ball) (r : Ray) (reach : Float) (solid : Bool) (h : RayIntersection) → NotBelowZero reach → ball_cast b r reach solid ≡ Some h → Within h.time_of_impact reach
 unfolding ball_cast

@@ -7,7 +7,7 @@ use crate::ball::Ball;
 use math::Vector;
 use query::ray::{Ray, RayCast, RayIntersection};
 
-#[derive(Clone, Copy)]
+#[derive(Clone, Copy, PartialEq, Debug)]
 pub struct BoundingSphere {
     pub center: Vector,
     pub radius: f32,

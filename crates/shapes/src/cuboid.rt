@@ -7,7 +7,7 @@ use boxes::aabb::Aabb;
 use math::Vector;
 use query::ray::{Ray, RayCast, RayIntersection};
 
-#[derive(Clone, Copy)]
+#[derive(Clone, Copy, PartialEq, Debug)]
 pub struct Cuboid {
     pub half_extents: Vector,
 }

@@ -8,7 +8,7 @@ use query::feature_id::FeatureId;
 use query::ray::{Ray, RayCast, RayIntersection};
 
 // The points that are not in front of the plane; `normal` points out, with any length.
-#[derive(Clone, Copy)]
+#[derive(Clone, Copy, PartialEq, Debug)]
 pub struct HalfSpace {
     pub normal: Vector,
 }
@@ -20,6 +20,7 @@ impl RayCast for HalfSpace {
 
     ghost kept = { λ x r reach longer solid n. half_space_kept x r reach longer solid };
 
+    #[tactic(auto, unfolding(crate::specs::HalfSpace::half_space_cast, crate::specs::HalfSpace::half_space_hit, crate::specs::HalfSpace::plane_hit))]
     fn cast_local_ray_and_get_normal(
         &self,
         ray: &Ray,
@@ -36,15 +37,12 @@ impl RayCast for HalfSpace {
             return None;
         }
         let t = depth / speed;
-        if t >= 0.0 && t <= max_time_of_impact {
-            let normal = if depth > 0.0 {
-                self.normal.neg()
-            } else {
-                self.normal
-            };
-            Some(RayIntersection::new(t, normal, FeatureId::Face(0)))
+        let normal = if depth > 0.0 {
+            self.normal.neg()
         } else {
-            None
-        }
+            self.normal
+        };
+        let hit = RayIntersection::new(t, normal, FeatureId::Face(0));
+        (t >= 0.0 && t <= max_time_of_impact).then_some(hit)
     }
 }

@@ -16,7 +16,7 @@ use crate::triangle::Triangle;
 use boxes::aabb::Aabb;
 use query::ray::{Ray, RayCast, RayIntersection};
 
-#[derive(Clone, Copy)]
+#[derive(Clone, Copy, PartialEq, Debug)]
 pub enum Shape {
     Ball(Ball),
     Cuboid(Cuboid),

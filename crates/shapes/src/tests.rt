@@ -12,22 +12,6 @@ use query::ray::{Ray, RayCast, RayIntersection};
 use std::process::Abort;
 use std::test::Fail;
 
-fn check_hit(
-    rt: &impl Abort,
-    hit: Option<RayIntersection>,
-    time: f32,
-    normal: Vector,
-    feature: FeatureId,
-) -> Result<(), Fail> {
-    let hit = hit.ok_or("no hit")?;
-    assert_eq!(rt; hit.time_of_impact, time);
-    assert_eq!(rt; hit.normal.x, normal.x);
-    assert_eq!(rt; hit.normal.y, normal.y);
-    assert_eq!(rt; hit.normal.z, normal.z);
-    assert_eq!(rt; hit.feature, feature);
-    Ok(())
-}
-
 fn along_x(x: f32, y: f32) -> Ray {
     Ray::new(Vector::new(x, y, 0.0), Vector::new(1.0, 0.0, 0.0))
 }
@@ -35,13 +19,12 @@ fn along_x(x: f32, y: f32) -> Ray {
 // The face of the shape is two units ahead of the ray, along x.
 fn check_two_ahead(rt: &impl Abort, shape: &Shape, ray: &Ray) -> Result<(), Fail> {
     let hit = shape.cast_local_ray_and_get_normal(ray, 10.0, true);
-    check_hit(
-        rt,
+    let normal = Vector::new(-1.0, 0.0, 0.0);
+    assert_eq!(rt;
         hit,
-        2.0,
-        Vector::new(-1.0, 0.0, 0.0),
-        FeatureId::Face(0),
-    )
+        Some(RayIntersection::new(2.0, normal, FeatureId::Face(0)))
+    );
+    Ok(())
 }
 
 #[test]
@@ -68,12 +51,14 @@ fn rays_from_a_triangle(rt: HostRuntime) -> Result<(), Fail> {
     let up = Vector::new(0.0, 0.0, 1.0);
     let on = Ray::new(Vector::new(0.25, 0.25, 0.0), up);
     let hit = triangle.cast_local_ray_and_get_normal(&on, 1.0, true);
-    check_hit(&rt, hit, 0.0, up.neg(), FeatureId::Face(1))?;
+    assert_eq!(rt;
+        hit,
+        Some(RayIntersection::new(0.0, up.neg(), FeatureId::Face(1)))
+    );
     let beside = Ray::new(Vector::new(-0.25, -0.25, 0.0), up);
-    assert!(rt;
-        triangle
-            .cast_local_ray_and_get_normal(&beside, 1.0, true)
-            .is_none()
+    assert_eq!(rt;
+        triangle.cast_local_ray_and_get_normal(&beside, 1.0, true),
+        None
     );
     Ok(())
 }
@@ -84,13 +69,16 @@ fn ray_along_a_half_space(rt: HostRuntime) -> Result<(), Fail> {
         normal: Vector::new(0.0, 1.0, 0.0),
     });
     let ray = along_x(0.0, -1.0);
-    assert!(rt;
-        ground
-            .cast_local_ray_and_get_normal(&ray, f32::INFINITY, false)
-            .is_none()
+    assert_eq!(rt;
+        ground.cast_local_ray_and_get_normal(&ray, f32::INFINITY, false),
+        None
     );
     let hit = ground.cast_local_ray_and_get_normal(&ray, 1.0, true);
-    check_hit(&rt, hit, 0.0, Vector::zero(), FeatureId::Face(0))
+    assert_eq!(rt;
+        hit,
+        Some(RayIntersection::new(0.0, Vector::zero(), FeatureId::Face(0)))
+    );
+    Ok(())
 }
 
 // The square of 2^-100 is too small for f32, so the exit comes out before the origin.
@@ -98,12 +86,9 @@ fn ray_along_a_half_space(rt: HostRuntime) -> Result<(), Fail> {
 fn tiny_ball(rt: HostRuntime) -> Result<(), Fail> {
     let size: f32 = 1.0 / 1125899906842624.0 / 1125899906842624.0;
     let ray = along_x(size, 0.0);
-    let (_, time) = ray_toi_with_ball(Vector::zero(), size, &ray, false);
-    assert_eq!(rt; time.ok_or("no time")?, -size);
+    let found = ray_toi_with_ball(Vector::zero(), size, &ray, false).ok_or("no time")?;
+    assert_eq!(rt; found.at, -size);
     let ball = Shape::Ball(Ball { radius: size });
-    assert!(rt;
-        ball.cast_local_ray_and_get_normal(&ray, 1.0, false)
-            .is_none()
-    );
+    assert_eq!(rt; ball.cast_local_ray_and_get_normal(&ray, 1.0, false), None);
     Ok(())
 }

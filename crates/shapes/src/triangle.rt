@@ -7,7 +7,7 @@ use math::Vector;
 use query::feature_id::FeatureId;
 use query::ray::{Ray, RayCast, RayIntersection};
 
-#[derive(Clone, Copy)]
+#[derive(Clone, Copy, PartialEq, Debug)]
 pub struct Triangle {
     pub a: Vector,
     pub b: Vector,
@@ -15,6 +15,7 @@ pub struct Triangle {
 }
 
 // The hit at the time height / size, if it is within the triangle: `v` and `w` are the shares of b and c in it, times `size`.
+#[tactic(auto, unfolding(crate::specs::Triangle::hit_within))]
 fn hit_within(
     v: f32,
     w: f32,
@@ -25,17 +26,13 @@ fn hit_within(
 ) -> Option<RayIntersection>
     ensures { result ≡ hit_within v w size height normal feature }
 {
-    if v < 0.0 || v > size {
-        return None;
-    }
-    if w < 0.0 || v + w > size {
-        return None;
-    }
-    Some(RayIntersection::new(height * (1.0 / size), normal, feature))
+    let outside = v < 0.0 || v > size || w < 0.0 || v + w > size;
+    (!outside).then_some(RayIntersection::new(height * (1.0 / size), normal, feature))
 }
 
 // Where a ray hits a triangle: Face(0) on the side that its normal (b - a) x (c - a) points to, Face(1) on the other.
 // The normal of the hit is against the ray.
+#[tactic(auto, unfolding(crate::specs::Triangle::triangle_hit, crate::specs::Triangle::seen_from_corner, crate::specs::Triangle::plane_reached, crate::specs::Triangle::plane_crossed))]
 pub fn local_ray_intersection_with_triangle(
     a: Vector,
     b: Vector,
@@ -81,6 +78,7 @@ impl RayCast for Triangle {
 
     ghost kept = { λ x r reach longer solid n. triangle_kept x r reach longer solid };
 
+    #[tactic(auto, unfolding(crate::specs::Triangle::triangle_cast))]
     fn cast_local_ray_and_get_normal(
         &self,
         ray: &Ray,
@@ -88,10 +86,6 @@ impl RayCast for Triangle {
         solid: bool,
     ) -> Option<RayIntersection> {
         let hit = local_ray_intersection_with_triangle(self.a, self.b, self.c, ray)?;
-        if hit.time_of_impact <= max_time_of_impact {
-            Some(hit)
-        } else {
-            None
-        }
+        (hit.time_of_impact <= max_time_of_impact).then_some(hit)
     }
 }

@@ -11,7 +11,8 @@ use Rattle.math.specs.Vectors.{min_position}
 use Rattle.boxes.specs.declared.aabb.Aabb.{Aabb}
 use Rattle.query.specs.declared.ray.Ray.{Ray}
 use Rattle.query.specs.declared.ray.RayIntersection.{RayIntersection}
-use Rattle.boxes.specs.declared.clip_aabb_line.LineClip.{LineClip}
+use Rattle.boxes.specs.declared.clip_aabb_line.Ends.{Ends}
+use Rattle.boxes.specs.declared.clip_aabb_line.LinePoint.{LinePoint}
 use Rattle.query.specs.Cast.{and_then, Within}
 use Rattle.boxes.specs.Clip.{clip_line, ray_parameters, clip_ray}
 use Rattle.boxes.specs.Box.{box_cast}
@@ -113,7 +114,7 @@ exit_not_below_zero b r clip e =
     let p = through (clip_line b r.origin r.dir) ray_parameters clip e in
     go p.0 (clip_sound b r.origin r.dir p.0 p.1).far_not_below_zero (lt p.0.far.time Single.zero) p.2
   where
-    go : (c : LineClip) → NotBelowZero c.far.time → (out : Bool) → cond out None (Some (Floats.float_max c.near.time Single.zero, c.far.time)) ≡ Some clip → NotBelowZero clip.1
+    go : (c : Ends LinePoint) → NotBelowZero c.far.time → (out : Bool) → cond out None (Some (Floats.float_max c.near.time Single.zero, c.far.time)) ≡ Some clip → NotBelowZero clip.1
     go c z true e = none_is_not_some clip e
     go c z false e = let s : c.far.time ≡ clip.1 = cc in subst NotBelowZero s z
 
