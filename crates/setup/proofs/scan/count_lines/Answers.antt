@@ -5,4 +5,4 @@ use Rattle.setup.proofs.scan.count_lines.Goals as goal
 
 pub count-requires-clause-fits : goal.count-requires-clause-fits
 unfolding lines
-count-requires-clause-fits c = search (rules, pieces_few newline c.args.text.now)
+count-requires-clause-fits c = search (rules, pieces_few newline)
