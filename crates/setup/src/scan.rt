@@ -1,5 +1,5 @@
 // Cuts a text into its lines, and a line into its words.
-ghost use Rattle.std.specs.Prelude.{◌≡◌, ◌<◌, [], ◌∷◌, length, drop, Some, None};
+ghost use Rattle.std.specs.Prelude.{◌≡◌, ◌<◌, ◌≤◌, [], ◌∷◌, length, drop, Some, None};
 ghost use Rattle.std.specs.List.{prefix_len};
 ghost use Rattle.std.specs.Iterator.{YieldsFirstRef, item_count};
 ghost use Rattle.setup.specs.Grammar.{blank, other, newline, hash, lines, words, uncommented};
@@ -123,15 +123,19 @@ impl<'a> Iterator for Words<'a> {
 }
 
 // The lines of the text, in order.
+#[tactic(auto, using(crate::proofs::Pieces::lines_few))]
 pub fn lines_of(text: &[u8]) -> Lines
-    ensures { result.rest.now ≡ text.now }
+    ensures all { result.rest.now ≡ text.now }
+    ensures few { length (lines text.now) ≤ length text.now }
 {
     Lines { rest: text }
 }
 
 // The words of the line, in order.
+#[tactic(auto, using(crate::proofs::FirstWord::words_few))]
 pub fn words_of(line: &[u8]) -> Words
-    ensures { result.rest.now ≡ line.now }
+    ensures all { result.rest.now ≡ line.now }
+    ensures few { length (words line.now) ≤ length line.now }
 {
     Words { rest: line }
 }
