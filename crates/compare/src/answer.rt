@@ -1,6 +1,6 @@
 // The answer to what a vector line asks.
-use crate::case::{Asked, Case};
-use boxes::clip_aabb_line::{LinePoint, clip_aabb_line, side_number};
+use crate::case::{Asked, Case, Filled, Look};
+use boxes::clip_aabb_line::{LineClip, LinePoint, clip_aabb_line, side_number};
 use grid::frame::ChunkFrame;
 use math::{IVector, Vector};
 use query::feature_id::FeatureId;
@@ -9,86 +9,130 @@ use query::ray_cast::cast_ray_and_get_normal;
 use refusals::Refusal;
 use sight::grid_point::GridPoint;
 use sight::scan::Scan;
-use std::alloc::{AllocError, Global};
+use std::fmt;
 use stores::cell_store::CellStore;
 use stores::table_store::TableStore;
 use voxels::chunk::Chunk;
 use voxels::chunk_cast::ChunkCast;
 
-// The bits of a number, for comparing as numbers: both zeros are one, and so are all NaNs.
-fn number_bits(x: f32) -> u32 {
-    if x != x {
-        0x7fc0_0000
-    } else if x == 0.0 {
-        0
-    } else {
-        std::num::f32_to_bits_with_nan(x)
+// A number by its bits, for comparing as numbers: both zeros are one, and so are all NaNs.
+#[derive(Clone, Copy)]
+struct NumberText(f32);
+
+impl fmt::Display for NumberText {
+    fn fmt<W: fmt::Write>(&self, f: &mut fmt::Formatter<W>) -> fmt::Result {
+        let x = self.0;
+        let bits = if x.is_nan() {
+            0x7fc0_0000
+        } else if x == 0.0 {
+            0
+        } else {
+            std::num::f32_to_bits_with_nan(x)
+        };
+        write!(f, "{bits:08x}")
     }
 }
 
-fn vector_text(heap: Global, v: Vector) -> Result<String, AllocError> {
-    let x = number_bits(v.x);
-    let y = number_bits(v.y);
-    let z = number_bits(v.z);
-    format!(in heap; "{x:08x} {y:08x} {z:08x}")
-}
+#[derive(Clone, Copy)]
+struct VectorText(Vector);
 
-fn hit_text(heap: Global, hit: Option<RayIntersection>) -> Result<String, AllocError> {
-    let Some(hit) = hit else {
-        return String::from_str(heap, "none");
-    };
-    let time = number_bits(hit.time_of_impact);
-    let normal = vector_text(heap, hit.normal)?;
-    match hit.feature {
-        FeatureId::Face(face) => format!(in heap; "hit {time:08x} {normal} {face}"),
-        FeatureId::Unknown => format!(in heap; "hit {time:08x} {normal} u"),
-        // no cast names one of these
-        FeatureId::Vertex(_) | FeatureId::Edge(_) => format!(in heap; "hit {time:08x} {normal} ?"),
+impl fmt::Display for VectorText {
+    fn fmt<W: fmt::Write>(&self, f: &mut fmt::Formatter<W>) -> fmt::Result {
+        let x = NumberText(self.0.x);
+        let y = NumberText(self.0.y);
+        let z = NumberText(self.0.z);
+        write!(f, "{x} {y} {z}")
     }
 }
 
-fn end_text(heap: Global, end: LinePoint) -> Result<String, AllocError> {
-    let time = number_bits(end.time);
-    let normal = vector_text(heap, end.normal)?;
-    let side = side_number(end.side);
-    format!(in heap; "{time:08x} {normal} {side}")
+#[derive(Clone, Copy)]
+struct HitText(Option<RayIntersection>);
+
+impl fmt::Display for HitText {
+    fn fmt<W: fmt::Write>(&self, f: &mut fmt::Formatter<W>) -> fmt::Result {
+        let Some(hit) = self.0 else {
+            return write!(f, "none");
+        };
+        let time = NumberText(hit.time_of_impact);
+        let normal = VectorText(hit.normal);
+        write!(f, "hit {time} {normal} ")?;
+        match hit.feature {
+            FeatureId::Face(face) => write!(f, "{face}"),
+            FeatureId::Unknown => write!(f, "u"),
+            // no cast names one of these
+            FeatureId::Vertex(_) | FeatureId::Edge(_) => write!(f, "?"),
+        }
+    }
 }
 
-fn cast_text(heap: Global, cast: ChunkCast) -> Result<String, AllocError> {
-    let hit = hit_text(heap, cast.hit)?;
-    let visited = cast.visited;
-    format!(in heap; "{hit} {visited}")
+#[derive(Clone, Copy)]
+struct EndText(LinePoint);
+
+impl fmt::Display for EndText {
+    fn fmt<W: fmt::Write>(&self, f: &mut fmt::Formatter<W>) -> fmt::Result {
+        let time = NumberText(self.0.time);
+        let normal = VectorText(self.0.normal);
+        let side = side_number(self.0.side);
+        write!(f, "{time} {normal} {side}")
+    }
 }
 
-fn cast_in_chunk(
-    key: IVector,
-    size: Vector,
-    id: i32,
-    kinds: &[u8; 512],
-    asked: &Asked,
-) -> Result<ChunkCast, Refusal> {
-    let Ok(id) = u32::try_from(id) else {
-        return Err(Refusal::BadMaking);
-    };
-    let mut chunk: Chunk<TableStore> = Chunk::new(ChunkFrame::new(key, size, id)?);
-    for n in 0..512u16 {
-        let _ = chunk.cells.set(n, kinds[n as usize]);
+// The answer to a case. It is written in the words of a vector line.
+#[derive(Clone, Copy)]
+pub enum Answer {
+    Hit(Option<RayIntersection>),
+    LineClip(Option<LineClip>),
+    RayClip(Option<(f32, f32)>),
+    ChunkCast(Result<ChunkCast, Refusal>),
+}
+
+impl fmt::Display for Answer {
+    fn fmt<W: fmt::Write>(&self, f: &mut fmt::Formatter<W>) -> fmt::Result {
+        match self {
+            Answer::Hit(hit) => {
+                let hit = HitText(*hit);
+                write!(f, "{hit}")
+            }
+            Answer::LineClip(None) | Answer::RayClip(None) => write!(f, "none"),
+            Answer::LineClip(Some(clip)) => {
+                let near = EndText(clip.near);
+                let far = EndText(clip.far);
+                write!(f, "{near} {far}")
+            }
+            Answer::RayClip(Some((start, end))) => {
+                let start = NumberText(*start);
+                let end = NumberText(*end);
+                write!(f, "{start} {end}")
+            }
+            Answer::ChunkCast(Ok(cast)) => {
+                let hit = HitText(cast.hit);
+                let visited = cast.visited;
+                write!(f, "{hit} {visited}")
+            }
+            Answer::ChunkCast(Err(refusal)) => {
+                let number = refusal.number();
+                write!(f, "refused {number}")
+            }
+        }
+    }
+}
+
+fn cast_in_chunk(filled: &Filled, asked: &Asked) -> Result<ChunkCast, Refusal> {
+    let id = u32::try_from(filled.id).map_err(|_| Refusal::BadMaking)?;
+    let frame = ChunkFrame::new(filled.key, filled.size, id)?;
+    let mut chunk: Chunk<TableStore> = Chunk::new(frame);
+    for (n, kind) in filled.kinds.iter().enumerate() {
+        let _ = chunk.cells.set(n as u16, *kind);
     }
     Ok(chunk.cast_ray(&asked.ray, asked.reach, asked.solid))
 }
 
-fn look(
-    key: IVector,
-    exponent: i32,
-    kinds: &[u8; 512],
-    camera: IVector,
-    target: IVector,
-) -> Result<ChunkCast, Refusal> {
-    let from = GridPoint::new(camera)?;
-    let to = GridPoint::new(target)?;
-    let mut scan: Scan<TableStore> = Scan::new(exponent, key, 0)?;
-    for n in 0..512usize {
-        if kinds[n] == 1 {
+fn look(asked: &Look) -> Result<ChunkCast, Refusal> {
+    let from = GridPoint::new(asked.camera)?;
+    let to = GridPoint::new(asked.target)?;
+    let mut scan: Scan<TableStore> = Scan::new(asked.exponent, asked.key, 0)?;
+    for (n, kind) in asked.kinds.iter().enumerate() {
+        if *kind == 1 {
             let x = (n % 8) as i32;
             let y = (n / 8 % 8) as i32;
             let z = (n / 64) as i32;
@@ -98,60 +142,31 @@ fn look(
     Ok(scan.look(&from, &to))
 }
 
-fn chunk_text(heap: Global, cast: Result<ChunkCast, Refusal>) -> Result<String, AllocError> {
-    match cast {
-        Ok(cast) => cast_text(heap, cast),
-        Err(refusal) => {
-            let number = refusal.number();
-            format!(in heap; "refused {number}")
-        }
-    }
-}
-
-// The answer in the words of a vector line.
-pub fn answer_text(heap: Global, case: &Case) -> Result<String, AllocError> {
-    match case {
-        Case::Cast { shape, asked } => {
-            hit_text(
-                heap,
-                shape.cast_local_ray_and_get_normal(&asked.ray, asked.reach, asked.solid),
-            )
-        }
-        Case::Posed { shape, pose, asked } => {
-            hit_text(
-                heap,
-                cast_ray_and_get_normal(shape, pose, &asked.ray, asked.reach, asked.solid),
-            )
-        }
-        Case::LineClip { aabb, ray } => match clip_aabb_line(aabb, ray.origin, ray.dir) {
-            None => String::from_str(heap, "none"),
-            Some(clip) => {
-                let near = end_text(heap, clip.near)?;
-                let far = end_text(heap, clip.far)?;
-                format!(in heap; "{near} {far}")
+impl Answer {
+    pub fn new(case: &Case) -> Answer {
+        match case {
+            Case::Cast { shape, asked } => {
+                Answer::Hit(shape.cast_local_ray_and_get_normal(
+                    &asked.ray,
+                    asked.reach,
+                    asked.solid,
+                ))
             }
-        },
-        Case::RayClip { aabb, ray } => match aabb.clip_ray_parameters(ray) {
-            None => String::from_str(heap, "none"),
-            Some((start, end)) => {
-                let start = number_bits(start);
-                let end = number_bits(end);
-                format!(in heap; "{start:08x} {end:08x}")
+            Case::Posed { shape, pose, asked } => {
+                Answer::Hit(cast_ray_and_get_normal(
+                    shape,
+                    pose,
+                    &asked.ray,
+                    asked.reach,
+                    asked.solid,
+                ))
             }
-        },
-        Case::InChunk {
-            key,
-            size,
-            id,
-            kinds,
-            asked,
-        } => { chunk_text(heap, cast_in_chunk(*key, *size, *id, kinds, asked)) }
-        Case::Look {
-            key,
-            exponent,
-            kinds,
-            camera,
-            target,
-        } => { chunk_text(heap, look(*key, *exponent, kinds, *camera, *target)) }
+            Case::LineClip { aabb, ray } => Answer::LineClip(clip_aabb_line(
+                aabb, ray.origin, ray.dir,
+            )),
+            Case::RayClip { aabb, ray } => Answer::RayClip(aabb.clip_ray_parameters(ray)),
+            Case::InChunk { filled, asked } => Answer::ChunkCast(cast_in_chunk(filled, asked)),
+            Case::Look(asked) => Answer::ChunkCast(look(asked)),
+        }
     }
 }

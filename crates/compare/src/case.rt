@@ -5,6 +5,7 @@ use math::pose::Pose;
 use math::rotation::Rotation;
 use math::{IVector, Vector};
 use query::ray::Ray;
+use setup::words_of;
 use shapes::ball::Ball;
 use shapes::bounding_sphere::BoundingSphere;
 use shapes::cuboid::Cuboid;
@@ -18,6 +19,25 @@ pub struct Asked {
     pub ray: Ray,
     pub reach: f32,
     pub solid: bool,
+}
+
+// A chunk: where it stands, its cells' size, and their kinds by number.
+#[derive(Clone, Copy)]
+pub struct Filled {
+    pub key: IVector,
+    pub size: Vector,
+    pub id: i32,
+    pub kinds: [u8; 512],
+}
+
+// A look from camera to target in a corner whose filled cells have the kind 1.
+#[derive(Clone, Copy)]
+pub struct Look {
+    pub key: IVector,
+    pub exponent: i32,
+    pub kinds: [u8; 512],
+    pub camera: IVector,
+    pub target: IVector,
 }
 
 #[derive(Clone, Copy)]
@@ -40,19 +60,10 @@ pub enum Case {
         ray: Ray,
     },
     InChunk {
-        key: IVector,
-        size: Vector,
-        id: i32,
-        kinds: [u8; 512],
+        filled: Filled,
         asked: Asked,
     },
-    Look {
-        key: IVector,
-        exponent: i32,
-        kinds: [u8; 512],
-        camera: IVector,
-        target: IVector,
-    },
+    Look(Look),
 }
 
 fn read_box(words: &mut Words) -> Option<Aabb> {
@@ -111,28 +122,26 @@ fn read_pose(words: &mut Words) -> Option<Pose> {
     })
 }
 
-fn read_chunk(words: &mut Words) -> Option<Case> {
+fn read_filled(words: &mut Words) -> Option<Filled> {
     let key = words.triple()?;
     let size = words.vector()?;
     let id = words.integer()?;
     let kinds = words.kinds()?;
-    let asked = read_asked(words)?;
-    Some(Case::InChunk {
+    Some(Filled {
         key,
         size,
         id,
         kinds,
-        asked,
     })
 }
 
-fn read_look(words: &mut Words) -> Option<Case> {
+fn read_look(words: &mut Words) -> Option<Look> {
     let key = words.triple()?;
     let exponent = words.integer()?;
     let kinds = words.kinds()?;
     let camera = words.triple()?;
     let target = words.triple()?;
-    Some(Case::Look {
+    Some(Look {
         key,
         exponent,
         kinds,
@@ -164,15 +173,21 @@ fn read_form(words: &mut Words) -> Option<Case> {
             let ray = read_ray(words)?;
             Some(Case::RayClip { aabb, ray })
         }
-        b"C" => read_chunk(words),
-        b"L" => read_look(words),
+        b"C" => {
+            let filled = read_filled(words)?;
+            let asked = read_asked(words)?;
+            Some(Case::InChunk { filled, asked })
+        }
+        b"L" => Some(Case::Look(read_look(words)?)),
         _ => None,
     }
 }
 
 // None where the line is malformed, a word too many among it.
 pub fn read_case(line: &[u8]) -> Option<Case> {
-    let mut words = Words { rest: line };
+    let mut words = Words {
+        words: words_of(line),
+    };
     let case = read_form(&mut words)?;
     if words.is_done() { Some(case) } else { None }
 }

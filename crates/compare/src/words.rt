@@ -1,20 +1,15 @@
 // The words of a vector line, read one after the other.
 use math::{IVector, Vector};
-use setup::{split_word, whole_number};
+use setup::whole_number;
 
 // What is left of a line.
 #[derive(Drop)]
 pub struct Words<'a> {
-    pub rest: &'a [u8],
+    pub words: setup::Words<'a>,
 }
 
-fn hex_digit(byte: u8) -> Option<u8> {
-    match byte {
-        b'0'..=b'9' => Some(byte - b'0'),
-        b'a'..=b'f' => Some(byte - b'a' + 10),
-        b'A'..=b'F' => Some(byte - b'A' + 10),
-        _ => None,
-    }
+fn hex_digit(byte: u8) -> Option<u32> {
+    char::from(byte).to_digit(16)
 }
 
 // The number that eight hexadecimal digits write.
@@ -22,24 +17,17 @@ fn hex_bits(word: &[u8]) -> Option<u32> {
     if word.len() != 8 {
         return None;
     }
-    let mut bits: u32 = 0;
-    for byte in word {
-        bits = bits
-            .wrapping_mul(16)
-            .wrapping_add(u32::from(hex_digit(*byte)?));
-    }
-    Some(bits)
+    word.iter()
+        .try_fold(0u32, |bits, byte| { Some(bits << 4 | hex_digit(*byte)?) })
 }
 
 impl<'a> Words<'a> {
     pub fn next_word(&mut self) -> Option<&'a [u8]> {
-        let (word, rest) = split_word(self.rest)?;
-        self.rest = rest;
-        Some(word)
+        self.words.next()
     }
 
-    pub fn is_done(&self) -> bool {
-        split_word(self.rest).is_none()
+    pub fn is_done(&mut self) -> bool {
+        self.next_word().is_none()
     }
 
     // A float by its 32 bits, any of them.
@@ -59,6 +47,7 @@ impl<'a> Words<'a> {
         whole_number(self.next_word()?)
     }
 
+    // `vector` over integers. One helper for both would take the reading as a closure, with a clause that it may be called, and be no shorter.
     pub fn triple(&mut self) -> Option<IVector> {
         let x = self.integer()?;
         let y = self.integer()?;
@@ -82,12 +71,13 @@ impl<'a> Words<'a> {
             return None;
         }
         let mut kinds = [0u8; 512];
-        for j in 0..64usize {
-            let high = hex_digit(word[2 * j])?;
-            let low = hex_digit(word[2 * j + 1])?;
-            for bit in 0..4usize {
-                kinds[8 * j + bit] = low >> bit & 1;
-                kinds[8 * j + 4 + bit] = high >> bit & 1;
+        for (cells, digits) in kinds.chunks_mut(8).zip(word.chunks(2)) {
+            let [high, low] = digits else {
+                return None;
+            };
+            let byte = hex_digit(*high)? << 4 | hex_digit(*low)?;
+            for (bit, kind) in cells.iter_mut().enumerate() {
+                *kind = (byte >> bit & 1) as u8;
             }
         }
         Some(kinds)

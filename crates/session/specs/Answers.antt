@@ -1,8 +1,7 @@
 -- What each statement answers, and the corner after it.
-use Rattle.std.specs.Prelude.{◌≡◌, ℕ, Bool, true, false, cond, ◌&&◌, ℤ, pos, is_ok, Some, None, Option, int_le, unsigned_abs}
+use Rattle.std.specs.Prelude.{◌≡◌, ℕ, Bool, true, false, cond, ◌&&◌, ℤ, pos, is_ok, Some, None, Option, Ok, Err, Result, int_le, unsigned_abs}
 use Rattle.math.specs.declared.IVector.{IVector}
-use Rattle.setup.specs.declared.Line.{Line}
-use Rattle.setup.specs.declared.Line.TheVariants as line
+use Rattle.setup.specs.declared.Expected.{Expected}
 use Rattle.setup.specs.declared.Statement.{Statement}
 use Rattle.setup.specs.declared.Statement.TheVariants as statement
 use Rattle.sight.specs.declared.scan.Scan.{Scan}
@@ -111,7 +110,7 @@ Answers kinds capacity None statement o after = BeforeRoom kinds statement o aft
 Answers kinds capacity (Some s) statement o after = StillIn kinds capacity s statement o after
 
 -- ---- a line
-abbrev pub AnswersLine : {S : Type 0} → (S → ℕ → ℕ) → ℕ → Option (Scan S) → Line → Outcome → Option (Scan S) → Type 0
-AnswersLine kinds capacity before line.Blank o after = (o ≡ Blank) × (after ≡ before)
-AnswersLine kinds capacity before (line.Says statement) o after = Answers kinds capacity before statement o after
-AnswersLine kinds capacity before (line.Unclear wanted) o after = (o ≡ Unclear wanted) × (after ≡ before)
+abbrev pub AnswersLine : {S : Type 0} → (S → ℕ → ℕ) → ℕ → Option (Scan S) → Result (Option Statement) Expected → Outcome → Option (Scan S) → Type 0
+AnswersLine kinds capacity before (Ok None) o after = (o ≡ Blank) × (after ≡ before)
+AnswersLine kinds capacity before (Ok (Some statement)) o after = Answers kinds capacity before statement o after
+AnswersLine kinds capacity before (Err wanted) o after = (o ≡ Unclear wanted) × (after ≡ before)

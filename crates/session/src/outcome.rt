@@ -1,5 +1,6 @@
 // What a line of a setup file comes to.
 ghost use Rattle.std.specs.Prelude.{◌≡◌};
+ghost use Rattle.session.specs.declared.outcome.Outcome.TheVariants.{Refused};
 ghost use Rattle.session.specs.Outcomes.{is_sight};
 
 use refusals::Refusal;
@@ -29,14 +30,14 @@ impl Outcome {
     pub fn is_sight(&self) -> bool
         ensures { result ≡ is_sight self.now }
     {
-        match self {
-            Outcome::Clear { visited: _ }
-            | Outcome::Blocked {
-                cell: _,
-                time: _,
-                visited: _,
-            } => true,
-            _ => false,
-        }
+        matches!(self, Outcome::Clear { .. } | Outcome::Blocked { .. })
+    }
+}
+
+impl From<Refusal> for Outcome {
+    ghost from_gives = { λ r o. o ≡ Refused r };
+
+    fn from(refusal: Refusal) -> Outcome {
+        Outcome::Refused(refusal)
     }
 }

@@ -5,7 +5,7 @@ ghost use Rattle.session.specs.Runs.{Runs, CarriesOut};
 
 use crate::outcome::Outcome;
 use crate::session::Session;
-use setup::{count_lines, split_line};
+use setup::{count_lines, lines_of};
 use std::alloc::{AllocError, Global};
 use stores::cell_store::CellStore;
 
@@ -22,13 +22,9 @@ pub fn run_into<S: CellStore + Drop>(text: &[u8], outcomes: &mut Vec<Outcome>) -
         return Err(NoRoom);
     }
     let mut session: Session<S> = Session::new();
-    let mut rest = text;
-    while let Some((line, after)) = split_line(rest) {
-        let Ok(()) = outcomes.push(session.answer_line(line)) else {
-            // there is room for an outcome of each line
-            unreachable()
-        };
-        rest = after;
+    for line in lines_of(text) {
+        // there is room for an outcome of each line
+        outcomes.push(session.answer_line(line)).unwrap();
     }
     Ok(())
 }
@@ -38,9 +34,7 @@ pub fn run<S: CellStore + Drop>(heap: Global, text: &[u8]) -> Result<Vec<Outcome
     ensures { IfOk result (λ v. Runs S.CellStore.kinds S.CellStore.capacity None (lines text.now) v.items) }
 {
     let mut outcomes = Vec::with_capacity(heap, count_lines(text))?;
-    let Ok(()) = run_into::<S>(text, &mut outcomes) else {
-        // room for an outcome of each line is reserved
-        unreachable()
-    };
+    // room for an outcome of each line is reserved
+    run_into::<S>(text, &mut outcomes).unwrap();
     Ok(outcomes)
 }

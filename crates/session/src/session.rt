@@ -1,7 +1,6 @@
 // The corner that a setup file describes, as far as it has been read.
-ghost use Rattle.std.specs.Prelude.{◌≡◌, ℕ, None};
+ghost use Rattle.std.specs.Prelude.{◌≡◌, Some, None, MatchResult};
 ghost use Rattle.setup.specs.Grammar.{line_meaning};
-ghost use Rattle.session.specs.Outcomes.{seen, done_or};
 ghost use Rattle.session.specs.Answers.{Sees, InCorner, Opens, BeforeRoom, Answers, AnswersLine};
 
 use crate::outcome::Outcome;
@@ -9,86 +8,67 @@ use looks::look;
 use math::IVector;
 use query::feature_id::FeatureId;
 use refusals::Refusal;
-use setup::{Line, Statement, parse_line};
+use setup::{Statement, parse_line};
 use sight::grid_point::GridPoint;
 use sight::scan::Scan;
 use stores::cell_store::CellStore;
 use voxels::chunk_cast::ChunkCast;
 
-fn done_or(r: Result<(), Refusal>) -> Outcome
-    ensures { result ≡ done_or r }
-{
-    match r {
-        Ok(()) => Outcome::Done,
-        Err(refusal) => Outcome::Refused(refusal),
-    }
-}
-
 // A sight line from camera to target.
-fn sight<S: CellStore>(scan: &Scan<S>, camera: IVector, target: IVector) -> Outcome
-    ensures { Sees S.CellStore.kinds scan.now camera target result }
+fn sight<S: CellStore>(scan: &Scan<S>, camera: IVector, target: IVector) -> Result<Outcome, Refusal>
+    ensures { MatchResult result (λ o. Sees S.CellStore.kinds scan.now camera target o) (λ r. Sees S.CellStore.kinds scan.now camera target (Outcome.Refused r)) }
 {
-    let from = match GridPoint::new(camera) {
-        Ok(point) => point,
-        Err(refusal) => return Outcome::Refused(refusal),
-    };
-    let to = match GridPoint::new(target) {
-        Ok(point) => point,
-        Err(refusal) => return Outcome::Refused(refusal),
-    };
+    let from = GridPoint::new(camera)?;
+    let to = GridPoint::new(target)?;
     let cast = look(scan, &from, &to);
-    match cast.hit {
-        None => Outcome::Clear {
-            visited: cast.visited,
-        },
-        Some(hit) => match hit.feature {
-            FeatureId::Face(face) => Outcome::Blocked {
-                cell: (face % 512) as u16,
-                time: hit.time_of_impact,
-                visited: cast.visited,
-            },
-            // a chunk's hit names a face
-            _ => unreachable(),
-        },
+    let visited = cast.visited;
+    let Some(hit) = cast.hit else {
+        return Ok(Outcome::Clear { visited });
+    };
+    match hit.feature {
+        FeatureId::Face(face) => Ok(Outcome::Blocked {
+            cell: (face % 512) as u16,
+            time: hit.time_of_impact,
+            visited,
+        }),
+        // a chunk's hit names a face
+        _ => unreachable(),
     }
 }
 
 // A statement on a corner.
-fn in_corner<S: CellStore>(scan: &mut Scan<S>, statement: Statement) -> Outcome
-    ensures { InCorner S.CellStore.kinds S.CellStore.capacity scan.old statement result scan.new }
+fn in_corner<S: CellStore>(scan: &mut Scan<S>, statement: Statement) -> Result<Outcome, Refusal>
+    ensures { MatchResult result (λ o. InCorner S.CellStore.kinds S.CellStore.capacity scan.old statement o scan.new) (λ r. InCorner S.CellStore.kinds S.CellStore.capacity scan.old statement (Outcome.Refused r) scan.new) }
 {
     match statement {
-        Statement::Room {
-            exponent: _,
-            key: _,
-            id: _,
-        } => Outcome::RoomTwice,
-        Statement::Mark { cell } => done_or(scan.mark(cell)),
-        Statement::Wipe { cell } => done_or(scan.wipe(cell)),
+        Statement::Room { .. } => Ok(Outcome::RoomTwice),
+        Statement::Mark { cell } => {
+            scan.mark(cell)?;
+            Ok(Outcome::Done)
+        }
+        Statement::Wipe { cell } => {
+            scan.wipe(cell)?;
+            Ok(Outcome::Done)
+        }
         Statement::Sight { camera, target } => sight(scan, camera, target),
     }
 }
 
-// A new corner, or a refusal.
-fn open_room<S: CellStore>(exponent: i32, key: IVector, id: i32) -> (Outcome, Option<Scan<S>>)
-    ensures { Opens S.CellStore.kinds exponent key id result.0 result.1 }
+// A new corner.
+fn open_room<S: CellStore>(exponent: i32, key: IVector, id: i32) -> Result<Scan<S>, Refusal>
+    ensures { MatchResult result (λ s. Opens S.CellStore.kinds exponent key id Outcome.Done (Some s)) (λ r. Opens S.CellStore.kinds exponent key id (Outcome.Refused r) None) }
 {
-    if id < 0 {
-        return (Outcome::Refused(Refusal::BadMaking), None);
-    }
-    match Scan::new(exponent, key, id as u32) {
-        Ok(scan) => (Outcome::Done, Some(scan)),
-        Err(refusal) => (Outcome::Refused(refusal), None),
-    }
+    let id = u32::try_from(id).map_err(|_| Refusal::BadMaking)?;
+    Scan::new(exponent, key, id)
 }
 
-// A statement where there is no corner yet.
-fn before_room<S: CellStore>(statement: Statement) -> (Outcome, Option<Scan<S>>)
-    ensures { BeforeRoom S.CellStore.kinds statement result.0 result.1 }
+// A statement where there is no corner yet: a new one, or what the statement comes to.
+fn before_room<S: CellStore>(statement: Statement) -> Result<Scan<S>, Outcome>
+    ensures { MatchResult result (λ s. BeforeRoom S.CellStore.kinds statement Outcome.Done (Some s)) (λ o. BeforeRoom S.CellStore.kinds statement o None) }
 {
     match statement {
-        Statement::Room { exponent, key, id } => open_room(exponent, key, id),
-        _ => (Outcome::RoomMissing, None),
+        Statement::Room { exponent, key, id } => Ok(open_room(exponent, key, id)?),
+        _ => Err(Outcome::RoomMissing),
     }
 }
 
@@ -110,12 +90,14 @@ impl<S: CellStore + Drop> Session<S> {
         ensures { Answers S.CellStore.kinds S.CellStore.capacity self.old.corner statement result self.new.corner }
     {
         match &mut self.corner {
-            Some(scan) => in_corner(scan, statement),
-            None => {
-                let (outcome, corner) = before_room(statement);
-                self.corner = corner;
-                outcome
-            }
+            Some(scan) => in_corner(scan, statement).unwrap_or_else(Outcome::from),
+            None => match before_room(statement) {
+                Ok(scan) => {
+                    self.corner = Some(scan);
+                    Outcome::Done
+                }
+                Err(outcome) => outcome,
+            },
         }
     }
 
@@ -124,9 +106,9 @@ impl<S: CellStore + Drop> Session<S> {
         ensures { AnswersLine S.CellStore.kinds S.CellStore.capacity self.old.corner (line_meaning line.now) result self.new.corner }
     {
         match parse_line(line) {
-            Line::Blank => Outcome::Blank,
-            Line::Says(statement) => self.answer(statement),
-            Line::Unclear(expected) => Outcome::Unclear(expected),
+            Ok(None) => Outcome::Blank,
+            Ok(Some(statement)) => self.answer(statement),
+            Err(expected) => Outcome::Unclear(expected),
         }
     }
 }

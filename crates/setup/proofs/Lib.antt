@@ -1,5 +1,4 @@
+pub mod FirstWord
 pub mod Numbers
 pub mod Pieces
 pub mod ReadsBack
-pub mod Scanning
-pub mod Words

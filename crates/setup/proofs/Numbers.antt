@@ -1,14 +1,12 @@
 -- The digits of a number read one by one, and the sign before them.
-use Rattle.std.proofs.Common.{◌≡◌, ℕ, ◌+◌, ◌-◌, ◌*◌, ◌^◌, ◌<◌, ◌≤◌, true, false, ◌&&◌, ltb, leb, List, [], ◌∷◌, ◌++◌, length, get_or, take, drop, set, ℤ, pos, neg_ℤ, Some, None, Ok, Err, Result, sym, refl, ap, ◌∙◌, append_assoc, pow-suc, add-one, arith, length-set}
+use Rattle.std.proofs.Common.{◌≡◌, ℕ, ◌+◌, ◌-◌, ◌*◌, ◌^◌, ◌<◌, ◌≤◌, true, false, ◌&&◌, ltb, leb, List, [], ◌∷◌, ◌++◌, length, get_or, take, drop, ℤ, pos, neg_ℤ, Some, None, Ok, Err, Result, sym, refl, ap, ◌∙◌, pow-suc, add-one, arith}
 use native.Mathlib.Nat.{pow-le-pow_right}
 use Rattle.std.specs.Option.{option_map}
 use Rattle.std.specs.Char.{is_ascii_digit}
 use Rattle.std.specs.Str.{all_ascii_digits}
-use Rattle.std.proofs.lemmas.List.{at_drop_more, at_drop_all, take_more_set, get_or-take}
+use Rattle.std.proofs.lemmas.List.{at_drop_more, at_drop_all}
 use Rattle.std.proofs.lemmas.Bool.{cond-true, cond-false, and_from, and_left, and_right, and_parts, lt-ltb, le-ltb, le-leb, lt-leb, leb-true, eq-eqb, ne_eqb}
-use Rattle.setup.specs.Grammar.{read_on, natural, whole_number, whole_numbers, put, count, nth, stated}
-use Rattle.setup.specs.declared.Keyword.{Keyword}
-use Rattle.setup.specs.declared.Keyword.TheVariants.{Room, Mark, Wipe, Sight}
+use Rattle.setup.specs.Grammar.{read_on, natural, whole_number, whole_numbers}
 
 -- the first i bytes of ds are digits and write n
 pub record Read (ds : List ℕ) (i n : ℕ) : Type 0 where
@@ -75,35 +73,8 @@ abbrev pub after : List ℤ → Result (List ℤ) ℕ → Result (List ℤ) ℕ
 after zs (Ok ys) = Ok (zs ++ ys)
 after zs (Err place) = Err place
 
--- of all words, the first n write the first n of zs, and the words ws are left
-pub record Gathered (all : List (List ℕ)) (n : ℕ) (zs : List ℤ) (ws : List (List ℕ)) : Type 0 where
-  pub room : length zs ≡ 6
+-- of all words, the first n write the first n of the m numbers zs, and the words ws are left
+pub record Gathered (m : ℕ) (all : List (List ℕ)) (n : ℕ) (zs : List ℤ) (ws : List (List ℕ)) : Type 0 where
+  pub room : length zs ≡ m
   pub left : n + length ws ≡ length all
   pub read : whole_numbers 1 all ≡ after (take n zs) (whole_numbers (n + 1) ws)
-
-after_put : (zs : List ℤ) (z : ℤ) (read : Result (List ℤ) ℕ) (place : ℕ) → after zs (put (Some z) read place) ≡ after (zs ++ z ∷ []) read
-after_put zs z (Ok ys) place = ap Ok (sym (append_assoc zs (z ∷ []) ys))
-after_put zs z (Err later) place = refl
-
-pub gathered_more : (all : List (List ℕ)) (n : ℕ) (zs : List ℤ) (ws : List (List ℕ)) (w : List ℕ) (rest : List (List ℕ)) (z : ℤ) → Gathered all n zs ws → ws ≡ w ∷ rest → Some z ≡ whole_number w → n < length zs → Gathered all (n + 1) (set zs n z) rest
-gathered_more all n zs ws w rest z so_far cut reads h = record {
-  room = length-set zs n z ∙ so_far.room;
-  left = omega (arith, so_far.left, ap length cut);
-  read =
-      so_far.read
-      ∙ ap (λ l. after (take n zs) (whole_numbers (n + 1) l)) cut
-      ∙ ap (λ o. after (take n zs) (put o (whole_numbers (n + 1 + 1) rest) (n + 1))) (sym reads)
-      ∙ after_put (take n zs) z (whole_numbers (n + 1 + 1) rest) (n + 1)
-      ∙ ap (λ l. after l (whole_numbers (n + 1 + 1) rest)) (sym (take_more_set zs n z h));
-}
-
--- a statement reads the numbers of its keyword alone
-nth_take : (zs : List ℤ) (n i : ℕ) → i < n → nth (take n zs) i ≡ nth zs i
-nth_take zs n i h = get_or-take n zs i (pos 0) h
-
-pub stated_take : (k : Keyword) (n : ℕ) (zs : List ℤ) → n ≡ count k → stated k (take n zs) ≡ stated k zs
-stated_take Room n zs e = simp (nth_take zs n 0 (omega arith), nth_take zs n 1 (omega arith), nth_take zs n 2 (omega arith), nth_take zs n 3 (omega arith), nth_take zs n 4 (omega arith)) refl
-stated_take Mark n zs e = simp (nth_take zs n 0 (omega arith), nth_take zs n 1 (omega arith), nth_take zs n 2 (omega arith)) refl
-stated_take Wipe n zs e = simp (nth_take zs n 0 (omega arith), nth_take zs n 1 (omega arith), nth_take zs n 2 (omega arith)) refl
-stated_take Sight n zs e =
-    simp (nth_take zs n 0 (omega arith), nth_take zs n 1 (omega arith), nth_take zs n 2 (omega arith), nth_take zs n 3 (omega arith), nth_take zs n 4 (omega arith), nth_take zs n 5 (omega arith)) refl

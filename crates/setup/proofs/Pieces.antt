@@ -2,7 +2,7 @@
 use Rattle.std.proofs.Common.{◌≡◌, ℕ, suc, ◌+◌, ◌<◌, ◌≤◌, Bool, List, [], ◌∷◌, length, take, drop, refl, ap, ◌∙◌, ⊎_elim, arith}
 use Rattle.std.specs.List.{prefix_len}
 use Rattle.std.proofs.lemmas.Bool.{cases_Bool, cond-true, cond-false, cond_both}
-use Rattle.setup.specs.Grammar.{other, before, pieces}
+use Rattle.setup.specs.Grammar.{other, newline, before, pieces, lines}
 
 pub pieces_first : (p : ℕ → Bool) (xs : List ℕ) (n : ℕ) → n ≡ prefix_len (other p) xs → n < length xs → pieces p xs ≡ take n xs ∷ pieces p (drop (n + 1) xs)
 pieces_first p [] n e h = absurd (omega arith)
@@ -42,3 +42,7 @@ pieces_few p (c ∷ cs) =
     let rest = pieces_few p cs in
     let joined = before_few c (pieces p cs) (length cs) rest in
     cond_both (p c) ([] ∷ pieces p cs) (before c (pieces p cs)) (λ ws. length ws ≤ length (c ∷ cs)) (λ q. omega arith) (λ q. omega arith)
+
+pub lines_few : (text : List ℕ) → length (lines text) ≤ length text
+unfolding lines
+lines_few text = pieces_few newline text

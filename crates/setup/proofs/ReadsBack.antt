@@ -1,5 +1,5 @@
 -- What is written of a statement is read back.
-use Rattle.std.proofs.Common.{◌≡◌, ℕ, suc, ◌+◌, ◌^◌, ◌<◌, Bool, true, false, ◌&&◌, leb, List, [], ◌∷◌, ◌++◌, map, length, get_or, ℤ, pos, negsuc, neg_ℤ, Some, Ok, decimal, refl, ap, ◌∙◌, arith}
+use Rattle.std.proofs.Common.{◌≡◌, ℕ, suc, ◌+◌, ◌^◌, ◌<◌, Bool, true, false, ◌&&◌, leb, List, [], ◌∷◌, ◌++◌, map, length, get_or, ℤ, pos, negsuc, neg_ℤ, Option, Some, Result, Ok, decimal, refl, ap, ◌∙◌, arith}
 use Rattle.std.specs.Option.{option_map}
 use Rattle.std.specs.Fmt.{signed_decimal}
 use Rattle.std.specs.List.{prefix_len, AllByRecursion}
@@ -12,12 +12,11 @@ use Rattle.setup.specs.declared.Keyword.{Keyword}
 use Rattle.setup.specs.declared.Keyword.TheVariants.{Room, Mark, Wipe, Sight}
 use Rattle.setup.specs.declared.Statement.{Statement}
 use Rattle.setup.specs.declared.Statement.TheVariants as statement
-use Rattle.setup.specs.declared.Line.{Line}
-use Rattle.setup.specs.declared.Line.TheVariants.{Says}
+use Rattle.setup.specs.declared.Expected.{Expected}
 use Rattle.setup.specs.Grammar.{other, blank, hash, words, uncommented, read_on, natural, whole_number, whole_numbers, put, keyword_of, name, stated, said, meaning, meaning_after, line_meaning}
 use Rattle.setup.specs.Texts.{keyword, numbers, spaced, written, Short}
 use Rattle.setup.proofs.Numbers.{natural_some, whole_number-minus, whole_number-plain}
-use Rattle.setup.proofs.Words.{words_after_blank, words_first}
+use Rattle.setup.proofs.FirstWord.{words_after_blank, words_first}
 
 -- ---- a number
 
@@ -152,14 +151,14 @@ stated_numbers (statement.Mark c) = refl
 stated_numbers (statement.Wipe c) = refl
 stated_numbers (statement.Sight c t) = refl
 
-pub reads_back : (s : Statement) → AllByRecursion Short (numbers s) → line_meaning (written s) ≡ Says s
+pub reads_back : (s : Statement) → AllByRecursion Short (numbers s) → line_meaning (written s) ≡ Ok (Some s)
 reads_back s h =
     ap meaning (words_written (keyword s) (numbers s) h)
     ∙ ap (λ o. meaning_after o (map signed_decimal (numbers s))) (keyword_of-name (keyword s))
     ∙ counted s
     ∙ ap (said (keyword s)) (whole_numbers-signed (numbers s) 1 h)
-    ∙ ap Says (stated_numbers s)
+    ∙ ap (λ t. Ok (Some t)) (stated_numbers s)
 
 -- the same of a line that is what is written, and of an answer that is its meaning
-pub says_back : (line : List ℕ) (r : Line) → r ≡ line_meaning line → (s : Statement) → AllByRecursion Short (numbers s) → line ≡ written s → r ≡ Says s
+pub says_back : (line : List ℕ) (r : Result (Option Statement) Expected) → r ≡ line_meaning line → (s : Statement) → AllByRecursion Short (numbers s) → line ≡ written s → r ≡ Ok (Some s)
 says_back line r value s h e = value ∙ ap line_meaning e ∙ reads_back s h

@@ -7,9 +7,8 @@ use Rattle.setup.specs.declared.Statement.{Statement}
 use Rattle.setup.specs.declared.Statement.TheVariants as statement
 use Rattle.setup.specs.declared.Keyword.{Keyword}
 use Rattle.setup.specs.declared.Keyword.TheVariants.{Room, Mark, Wipe, Sight}
+use Rattle.setup.specs.declared.Expected.{Expected}
 use Rattle.setup.specs.declared.Expected.TheVariants as expected
-use Rattle.setup.specs.declared.Line.{Line}
-use Rattle.setup.specs.declared.Line.TheVariants.{Blank, Says, Unclear}
 
 -- ---- lines and words
 
@@ -117,18 +116,24 @@ stated Mark zs = statement.Mark (triple zs 0)
 stated Wipe zs = statement.Wipe (triple zs 0)
 stated Sight zs = statement.Sight (triple zs 0) (triple zs 3)
 
-abbrev pub said : Keyword → Result (List ℤ) ℕ → Line
-said k (Ok zs) = Says (stated k zs)
-said k (Err place) = Unclear (expected.WholeNumber place)
+-- the same, or what the word at that place should have been
+abbrev pub placed : Result (List ℤ) ℕ → Result (List ℤ) Expected
+placed (Ok zs) = Ok zs
+placed (Err place) = Err (expected.WholeNumber place)
+
+abbrev pub said : Keyword → Result (List ℤ) ℕ → Result (Option Statement) Expected
+said k (Ok zs) = Ok (Some (stated k zs))
+said k (Err place) = Err (expected.WholeNumber place)
 
 -- first the keyword, then the count of the words after it, then each of them
-abbrev pub meaning_after : Option Keyword → List (List ℕ) → Line
-meaning_after None ws = Unclear expected.Keyword
-meaning_after (Some k) ws = cond (length ws == count k) (said k (whole_numbers 1 ws)) (Unclear (expected.Numbers k))
+abbrev pub meaning_after : Option Keyword → List (List ℕ) → Result (Option Statement) Expected
+meaning_after None ws = Err expected.Keyword
+meaning_after (Some k) ws = cond (length ws == count k) (said k (whole_numbers 1 ws)) (Err (expected.Numbers k))
 
-abbrev pub meaning : List (List ℕ) → Line
-meaning [] = Blank
+-- a line with no word says nothing
+abbrev pub meaning : List (List ℕ) → Result (Option Statement) Expected
+meaning [] = Ok None
 meaning (w ∷ ws) = meaning_after (keyword_of w) ws
 
-abbrev pub line_meaning : List ℕ → Line
+abbrev pub line_meaning : List ℕ → Result (Option Statement) Expected
 line_meaning line = meaning (words (uncommented line))

@@ -14,7 +14,7 @@ mod tests;
 use math::IVector;
 pub use number::whole_number;
 pub use parse::parse_line;
-pub use scan::{count_lines, split_line, split_word};
+pub use scan::{Lines, Words, count_lines, lines_of, split_line, split_word, words_of};
 
 // What a line asks for.
 #[derive(Clone, Copy, PartialEq, Debug)]
@@ -52,14 +52,6 @@ pub enum Expected {
     Keyword,
     Numbers(Keyword),
     WholeNumber(u8),
-}
-
-// What a line says.
-#[derive(Clone, Copy, PartialEq, Debug)]
-pub enum Line {
-    Blank,
-    Says(Statement),
-    Unclear(Expected),
 }
 
 impl Keyword {

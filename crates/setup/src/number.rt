@@ -1,11 +1,9 @@
 // Reads the whole numbers of a line.
-ghost use Rattle.std.specs.Prelude.{◌≡◌, ◌^◌, ◌<◌, ◌≤◌, length, take, Some, None, Ok, Err};
-ghost use Rattle.setup.specs.Grammar.{natural, whole_number, whole_numbers, words};
+ghost use Rattle.std.specs.Prelude.{◌≡◌, ◌^◌, ◌<◌, ◌≤◌, length, Some, None};
+ghost use Rattle.setup.specs.Grammar.{natural, whole_number, whole_numbers, placed, words};
 
-use crate::scan::split_word;
-
-// No statement has more numbers.
-pub(crate) const MOST: usize = 6;
+use crate::Expected;
+use crate::scan::words_of;
 
 // The number that one to nine digits write.
 fn natural_number(digits: &[u8]) -> Option<u32>
@@ -16,6 +14,7 @@ fn natural_number(digits: &[u8]) -> Option<u32>
         return None;
     }
     let mut value = 0;
+    // a loop, whose invariant bounds the value; in the closure of a `try_fold` nothing would
     for digit in digits {
         if !digit.is_ascii_digit() {
             return None;
@@ -29,31 +28,21 @@ fn natural_number(digits: &[u8]) -> Option<u32>
 pub fn whole_number(word: &[u8]) -> Option<i32>
     ensures { result ≡ whole_number word.now }
 {
-    if !word.is_empty() && word[0] == b'-' {
-        let value = natural_number(&word[1..])?;
-        Some(-(value as i32))
-    } else {
-        let value = natural_number(word)?;
-        Some(value as i32)
+    match word {
+        [b'-', digits @ ..] => Some(-(natural_number(digits)? as i32)),
+        _ => Some(natural_number(word)? as i32),
     }
 }
 
-// The numbers that the words of the line write, or the place of the first word that writes none,
-// where 1 is the first word.
-pub(crate) fn whole_numbers(line: &[u8]) -> Result<[i32; MOST], u8>
-    requires { length (words line.now) ≤ 6 }
-    ensures { elim result [ Ok zs ↦ whole_numbers 1 (words line.now) ≡ Ok (take (length (words line.now)) zs) | Err place ↦ whole_numbers 1 (words line.now) ≡ Err place ] }
+// The numbers that the words of the line write, or that a word writes none: the first that does not, by its place.
+pub(crate) fn whole_numbers<const N: usize>(line: &[u8]) -> Result<[i32; N], Expected>
+    requires count { length (words line.now) ≡ N }
+    requires few { N ≤ 6 }
+    ensures { result ≡ placed (whole_numbers 1 (words line.now)) }
 {
-    let mut numbers = [0; MOST];
-    let mut count = 0;
-    let mut rest = line;
-    while let Some((word, after)) = split_word(rest) {
-        let Some(number) = whole_number(word) else {
-            return Err(count as u8 + 1);
-        };
-        numbers[count] = number;
-        count += 1;
-        rest = after;
+    let mut numbers = [0; N];
+    for (i, word) in words_of(line).enumerate() {
+        numbers[i] = whole_number(word).ok_or(Expected::WholeNumber(i as u8 + 1))?;
     }
     Ok(numbers)
 }

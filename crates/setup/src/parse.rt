@@ -1,86 +1,75 @@
 // Reads a line into what it says.
-ghost use Rattle.std.specs.Prelude.{◌≡◌};
-ghost use Rattle.std.specs.Str.{bytes_eq};
+ghost use Rattle.std.specs.Prelude.{◌≡◌, length, Some, Ok};
 ghost use Rattle.std.specs.List.{AllByRecursion};
-ghost use Rattle.setup.specs.Grammar.{keyword_of, stated, line_meaning};
+ghost use Rattle.setup.specs.Grammar.{keyword_of, count, words, said, whole_numbers, line_meaning};
 ghost use Rattle.setup.specs.Texts.{Short, numbers, written};
 
-use crate::number::{MOST, whole_numbers};
+use crate::number::whole_numbers;
 use crate::scan::{count_words, split_word, without_comment};
-use crate::{Expected, Keyword, Line, Statement};
+use crate::{Expected, Keyword, Statement};
 use math::IVector;
 
-// Whether the word is that name, byte for byte.
-fn spells(word: &[u8], name: &[u8]) -> bool
-    ensures { result ≡ bytes_eq word.now name.now }
-{
-    word == name
-}
-
+#[tactic(auto, unfolding(crate::specs::Grammar::keyword_of))]
 fn keyword_of(word: &[u8]) -> Option<Keyword>
     ensures { result ≡ keyword_of word.now }
 {
-    if spells(word, b"room") {
-        Some(Keyword::Room)
-    } else if spells(word, b"mark") {
-        Some(Keyword::Mark)
-    } else if spells(word, b"wipe") {
-        Some(Keyword::Wipe)
-    } else if spells(word, b"sight") {
-        Some(Keyword::Sight)
-    } else {
-        None
+    match word {
+        b"room" => Some(Keyword::Room),
+        b"mark" => Some(Keyword::Mark),
+        b"wipe" => Some(Keyword::Wipe),
+        b"sight" => Some(Keyword::Sight),
+        _ => None,
     }
 }
 
-// The statement of the keyword with these numbers; those past its count say nothing.
-fn statement_of(keyword: Keyword, numbers: [i32; MOST]) -> Statement
-    ensures { result ≡ stated keyword numbers }
+// What the line says, by its keyword and the words after it, of which there are as many as the keyword has numbers.
+fn statement_of(keyword: Keyword, rest: &[u8]) -> Result<Option<Statement>, Expected>
+    requires { length (words rest.now) ≡ count keyword }
+    ensures { result ≡ said keyword (whole_numbers 1 (words rest.now)) }
 {
-    let first = IVector {
-        x: numbers[0],
-        y: numbers[1],
-        z: numbers[2],
+    let statement = match keyword {
+        Keyword::Room => {
+            let [exponent, x, y, z, id] = whole_numbers::<5>(rest)?;
+            Statement::Room {
+                exponent,
+                key: IVector { x, y, z },
+                id,
+            }
+        }
+        Keyword::Mark => {
+            let [x, y, z] = whole_numbers::<3>(rest)?;
+            Statement::Mark {
+                cell: IVector { x, y, z },
+            }
+        }
+        Keyword::Wipe => {
+            let [x, y, z] = whole_numbers::<3>(rest)?;
+            Statement::Wipe {
+                cell: IVector { x, y, z },
+            }
+        }
+        Keyword::Sight => {
+            let [x, y, z, u, v, w] = whole_numbers::<6>(rest)?;
+            Statement::Sight {
+                camera: IVector { x, y, z },
+                target: IVector { x: u, y: v, z: w },
+            }
+        }
     };
-    match keyword {
-        Keyword::Room => Statement::Room {
-            exponent: numbers[0],
-            key: IVector {
-                x: numbers[1],
-                y: numbers[2],
-                z: numbers[3],
-            },
-            id: numbers[4],
-        },
-        Keyword::Mark => Statement::Mark { cell: first },
-        Keyword::Wipe => Statement::Wipe { cell: first },
-        Keyword::Sight => Statement::Sight {
-            camera: first,
-            target: IVector {
-                x: numbers[3],
-                y: numbers[4],
-                z: numbers[5],
-            },
-        },
-    }
+    Ok(Some(statement))
 }
 
-// What the line says.
-pub fn parse_line(line: &[u8]) -> Line
+// What the line says, if anything.
+pub fn parse_line(line: &[u8]) -> Result<Option<Statement>, Expected>
     ensures value { result ≡ line_meaning line.now }
-    ensures reads_back { (s : Statement) → AllByRecursion Short (numbers s) → line.now ≡ written s → result ≡ Line.Says s }
+    ensures reads_back { (s : Statement) → AllByRecursion Short (numbers s) → line.now ≡ written s → result ≡ Ok (Some s) }
 {
     let Some((word, rest)) = split_word(without_comment(line)) else {
-        return Line::Blank;
+        return Ok(None);
     };
-    let Some(keyword) = keyword_of(word) else {
-        return Line::Unclear(Expected::Keyword);
-    };
+    let keyword = keyword_of(word).ok_or(Expected::Keyword)?;
     if count_words(rest) != usize::from(keyword.numbers()) {
-        return Line::Unclear(Expected::Numbers(keyword));
+        return Err(Expected::Numbers(keyword));
     }
-    match whole_numbers(rest) {
-        Ok(numbers) => Line::Says(statement_of(keyword, numbers)),
-        Err(place) => Line::Unclear(Expected::WholeNumber(place)),
-    }
+    statement_of(keyword, rest)
 }

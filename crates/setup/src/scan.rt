@@ -1,6 +1,7 @@
 // Cuts a text into its lines, and a line into its words.
-ghost use Rattle.std.specs.Prelude.{◌≡◌, ◌<◌, [], ◌∷◌, length, drop, Some, None};
+ghost use Rattle.std.specs.Prelude.{◌≡◌, ◌<◌, ◌≤◌, [], ◌∷◌, length, drop, Some, None};
 ghost use Rattle.std.specs.List.{prefix_len};
+ghost use Rattle.std.specs.Iterator.{YieldsFirstRef, item_count};
 ghost use Rattle.setup.specs.Grammar.{blank, other, newline, hash, lines, words, uncommented};
 
 fn is_blank(byte: u8) -> bool
@@ -9,52 +10,34 @@ fn is_blank(byte: u8) -> bool
     byte == b' ' || byte == b'\t' || byte == b'\r'
 }
 
+// Each of these four is a function of its own, since the check finds what a chain counts where it is returned, and not where it is used further.
+
 // How many bytes stand before the first newline.
 fn line_len(text: &[u8]) -> usize
     ensures { result ≡ prefix_len (other newline) text.now }
 {
-    for (i, byte) in text.iter().enumerate() {
-        if *byte == b'\n' {
-            return i;
-        }
-    }
-    text.len()
+    text.iter().take_while(|byte| **byte != b'\n').count()
 }
 
 // How many bytes stand before the first '#'.
 fn content_len(line: &[u8]) -> usize
     ensures { result ≡ prefix_len (other hash) line.now }
 {
-    for (i, byte) in line.iter().enumerate() {
-        if *byte == b'#' {
-            return i;
-        }
-    }
-    line.len()
+    line.iter().take_while(|byte| **byte != b'#').count()
 }
 
 // How many blanks the text begins with.
 fn blank_len(text: &[u8]) -> usize
     ensures { result ≡ prefix_len blank text.now }
 {
-    for (i, byte) in text.iter().enumerate() {
-        if !is_blank(*byte) {
-            return i;
-        }
-    }
-    text.len()
+    text.iter().take_while(|byte| is_blank(**byte)).count()
 }
 
 // How many bytes stand before the first blank.
 fn word_len(text: &[u8]) -> usize
     ensures { result ≡ prefix_len (other blank) text.now }
 {
-    for (i, byte) in text.iter().enumerate() {
-        if is_blank(*byte) {
-            return i;
-        }
-    }
-    text.len()
+    text.iter().take_while(|byte| !is_blank(**byte)).count()
 }
 
 // The first line and the text after it; none where the text is empty.
@@ -67,30 +50,18 @@ pub fn split_line(text: &[u8]) -> Option<(&[u8], &[u8])>
     }
     let end = line_len(text);
     if end < text.len() {
-        Some((&text[0..end], &text[end + 1..]))
+        Some((&text[..end], &text[end + 1..]))
     } else {
         Some((text, b""))
     }
 }
 
-// How many lines the text has.
-pub fn count_lines(text: &[u8]) -> usize
-    ensures { result ≡ length (lines text.now) }
-{
-    let mut count = 0;
-    let mut rest = text;
-    while let Some((_, after)) = split_line(rest) {
-        count += 1;
-        rest = after;
-    }
-    count
-}
-
 // The bytes before a '#'.
+#[tactic(auto, using(crate::proofs::FirstWord::uncommented_is))]
 pub(crate) fn without_comment(line: &[u8]) -> &[u8]
     ensures { result.now ≡ uncommented line.now }
 {
-    &line[0..content_len(line)]
+    &line[..content_len(line)]
 }
 
 // The line from its first word on.
@@ -108,19 +79,77 @@ pub fn split_word(line: &[u8]) -> Option<(&[u8], &[u8])>
     if start.is_empty() {
         return None;
     }
-    let end = word_len(start);
-    Some((&start[0..end], &start[end..]))
+    Some(start.split_at(word_len(start)))
+}
+
+// The lines of what is left of a text.
+#[derive(Debug, Drop)]
+pub struct Lines<'a> {
+    rest: &'a [u8],
+}
+
+impl<'a> Iterator for Lines<'a> {
+    type Item = &'a [u8];
+
+    ghost next_gives = { YieldsFirstRef (λ s. lines s.rest.now) };
+
+    ghost remaining = { item_count (λ s. lines s.rest.now) };
+
+    fn next(&mut self) -> Option<&'a [u8]> {
+        let (line, rest) = split_line(self.rest)?;
+        self.rest = rest;
+        Some(line)
+    }
+}
+
+// The words of what is left of a line.
+#[derive(Debug, Drop)]
+pub struct Words<'a> {
+    rest: &'a [u8],
+}
+
+impl<'a> Iterator for Words<'a> {
+    type Item = &'a [u8];
+
+    ghost next_gives = { YieldsFirstRef (λ s. words s.rest.now) };
+
+    ghost remaining = { item_count (λ s. words s.rest.now) };
+
+    fn next(&mut self) -> Option<&'a [u8]> {
+        let (word, rest) = split_word(self.rest)?;
+        self.rest = rest;
+        Some(word)
+    }
+}
+
+// The lines of the text, in order.
+#[tactic(auto, using(crate::proofs::Pieces::lines_few))]
+pub fn lines_of(text: &[u8]) -> Lines
+    ensures all { result.rest.now ≡ text.now }
+    ensures few { length (lines text.now) ≤ length text.now }
+{
+    Lines { rest: text }
+}
+
+// The words of the line, in order.
+#[tactic(auto, using(crate::proofs::FirstWord::words_few))]
+pub fn words_of(line: &[u8]) -> Words
+    ensures all { result.rest.now ≡ line.now }
+    ensures few { length (words line.now) ≤ length line.now }
+{
+    Words { rest: line }
+}
+
+// How many lines the text has.
+pub fn count_lines(text: &[u8]) -> usize
+    ensures { result ≡ length (lines text.now) }
+{
+    lines_of(text).count()
 }
 
 // How many words the line has.
 pub(crate) fn count_words(line: &[u8]) -> usize
     ensures { result ≡ length (words line.now) }
 {
-    let mut count = 0;
-    let mut rest = line;
-    while let Some((_, after)) = split_word(rest) {
-        count += 1;
-        rest = after;
-    }
-    count
+    words_of(line).count()
 }

@@ -6,29 +6,29 @@ use std::test::Fail;
 fn good_lines(rt: HostRuntime) {
     let cell = IVector { x: 1, y: -2, z: 3 };
     let origin = IVector { x: 0, y: 0, z: 0 };
-    let table: [(&[u8], Line); 6] = [
-        (b"mark 1 -2 3", Line::Says(Statement::Mark { cell })),
-        (b"\twipe\t01  -2 3 \r", Line::Says(Statement::Wipe { cell })),
+    let table: [(&[u8], Option<Statement>); 6] = [
+        (b"mark 1 -2 3", Some(Statement::Mark { cell })),
+        (b"\twipe\t01  -2 3 \r", Some(Statement::Wipe { cell })),
         (
             b"sight 1 -2 3 0 -0 000# cot",
-            Line::Says(Statement::Sight {
+            Some(Statement::Sight {
                 camera: cell,
                 target: origin,
             }),
         ),
         (
             b"room 4 1 -2 3 999999999",
-            Line::Says(Statement::Room {
+            Some(Statement::Room {
                 exponent: 4,
                 key: cell,
                 id: 999_999_999,
             }),
         ),
-        (b"", Line::Blank),
-        (b" \t\r# mark 1 2 3", Line::Blank),
+        (b"", None),
+        (b" \t\r# mark 1 2 3", None),
     ];
     for (line, meaning) in table {
-        assert_eq!(rt; parse_line(line), meaning);
+        assert_eq!(rt; parse_line(line), Ok(meaning));
     }
 }
 
@@ -45,7 +45,7 @@ fn bad_lines(rt: HostRuntime) {
         (b"sight 1 2 3 4 5 --6", Expected::WholeNumber(6)),
     ];
     for (line, expected) in table {
-        assert_eq!(rt; parse_line(line), Line::Unclear(expected));
+        assert_eq!(rt; parse_line(line), Err(expected));
     }
 }
 
@@ -58,6 +58,22 @@ fn lines_of_a_text(rt: HostRuntime) -> Result<(), Fail> {
     let (third, rest) = split_line(rest).ok_or("no third line")?;
     assert_eq!(rt; third, b"wipe 1 2 3".as_slice());
     assert!(rt; split_line(rest).is_none());
+    Ok(())
+}
+
+#[test]
+fn iterators(rt: HostRuntime) -> Result<(), Fail> {
+    let mut lines = lines_of(b"mark 1 2\n\n");
+    assert_eq!(rt;
+        lines.next().ok_or("no first line")?,
+        b"mark 1 2".as_slice()
+    );
+    assert!(rt; lines.next().ok_or("no second line")?.is_empty());
+    assert!(rt; lines.next().is_none());
+    let mut words = words_of(b" mark\t1\r");
+    assert_eq!(rt; words.next().ok_or("no first word")?, b"mark".as_slice());
+    assert_eq!(rt; words.next().ok_or("no second word")?, b"1".as_slice());
+    assert!(rt; words.next().is_none());
     Ok(())
 }
 

@@ -4,6 +4,9 @@ use Rattle.session.specs.declared.outcome.Outcome.{Outcome}
 use Rattle.session.specs.Runs.{Runs}
 use Rattle.session.proofs.run.run_into.Goals as goal
 
+pub unwrap-requires : goal.unwrap-requires
+unwrap-requires g c = c.push.ensures.succeeds (let first = c.in-Some.ensures.steps in let counted = ap length first in let room = c.loop-line.invariant.0 in omega arith)
+
 pub loop-line-preserved : goal.loop-line-preserved
 loop-line-preserved g c =
     let kinds = g.S.CellStore.kinds in
@@ -12,7 +15,7 @@ loop-line-preserved g c =
     let run = c.loop-line.invariant.1 in
     let before = c.loop-line.outcomes in
     let o = c.answer_line.result in
-    let first = c.in-Some.ensures.first in
+    let first = c.in-Some.ensures.steps in
     let counted = ap length first in
     let ok : is_ok c.push.result ≡ true = c.push.ensures.succeeds (omega arith) in
     let grown : vec_len c.push.new.self ≡ vec_len before + 1 =
@@ -43,7 +46,7 @@ returns g c =
         run.1,
         subst (λ (os : List Outcome). Runs kinds capacity None (lines c.args.text.now) os) (append-nil run.0)
             (run.2 []
-            (subst (λ (ls : List (List ℕ)). Runs kinds capacity c.loop-line.session.corner ls []) (sym c.in_default.ensures.first) tt)),
+            (subst (λ (ls : List (List ℕ)). Runs kinds capacity c.loop-line.session.corner ls []) (sym c.in-None.ensures.steps.0) tt)),
       );
       refused = λ e. absurd (true≢false e);
     }

@@ -1,10 +1,6 @@
-use Rattle.std.proofs.Common.{length}
 use Rattle.setup.specs.Grammar.{words}
 use Rattle.setup.proofs.Numbers.{Gathered}
 use Rattle.setup.proofs.number.whole_numbers.Given as goal
 
-abbrev pub invariant-loop-word : goal.invariant-loop-word
-invariant-loop-word l = Gathered (words l.line) l.count l.numbers (words l.rest)
-
-abbrev pub decreases-loop-word : goal.decreases-loop-word
-decreases-loop-word l = length (words l.rest)
+abbrev pub invariant-loop-i : goal.invariant-loop-i
+invariant-loop-i g l = Gathered g.row.N (words l.line) l.i-iterator.count l.numbers (words l.i-iterator.iter.rest.now)

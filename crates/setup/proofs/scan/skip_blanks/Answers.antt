@@ -1,5 +1,4 @@
-use Rattle.std.proofs.Common.{drop, ap, ◌∙◌, rules}
-use Rattle.std.proofs.lemmas.List.{take_rest}
+use Rattle.std.proofs.Common.{rules}
 use Rattle.std.proofs.lemmas.List.Sums.{prefix_len-le-length}
 use Rattle.setup.specs.Grammar.{blank}
 use Rattle.setup.proofs.scan.skip_blanks.Goals as goal
@@ -9,6 +8,3 @@ slice_bounds-result-count c = search (rules, prefix_len-le-length blank c.args.l
 
 pub slice_bounds-result-start : goal.slice_bounds-result-start
 slice_bounds-result-start c = search (rules, prefix_len-le-length blank c.args.line.now)
-
-pub returns : goal.returns
-returns c = take_rest c.args.line.now c.blank_len.result ∙ ap (λ n. drop n c.args.line.now) c.blank_len.ensures

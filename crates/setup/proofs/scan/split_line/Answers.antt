@@ -1,5 +1,4 @@
 use Rattle.std.proofs.Common.{◌+◌, sym, ap, arith, length-drop}
-use native.Mathlib.Nat.{sub-zero}
 use Rattle.std.proofs.lemmas.List.{nil_from_length, take_rest}
 use Rattle.std.proofs.lemmas.List.Sums.{prefix_len-le-length}
 use Rattle.std.proofs.lemmas.Bool.{eqb-true, eqb-false}
@@ -20,7 +19,7 @@ returns-then-end-text c =
     let end = c.line_len-end.result in
     let rest = length-drop (end + 1) text in
     record {
-      first = rw (sub-zero, take_rest) (pieces_first newline text end c.line_len-end.ensures c.if-end-text.true);
+      first = rw take_rest (pieces_first newline text end c.line_len-end.ensures c.if-end-text.true);
       shorter = rw take_rest (omega arith);
     }
 
