@@ -32,7 +32,7 @@ fn sight<S: CellStore>(scan: &Scan<S>, camera: IVector, target: IVector) -> Resu
             visited,
         }),
         // a chunk's hit names a face
-        _ => unreachable(),
+        _ => unreachable!(),
     }
 }
 

@@ -1,5 +1,5 @@
 // Cuts a text into its lines, and a line into its words.
-ghost use Rattle.std.specs.Prelude.{◌≡◌, ◌<◌, ◌≤◌, [], ◌∷◌, length, drop, Some, None};
+ghost use Rattle.std.specs.Prelude.{◌≡◌, ◌<◌, ◌≤◌, [], ◌∷◌, length, drop, Some, None, ◌==◌};
 ghost use Rattle.std.specs.List.{prefix_len};
 ghost use Rattle.std.specs.Iterator.{YieldsFirstRef, item_count};
 ghost use Rattle.setup.specs.Grammar.{blank, other, newline, hash, lines, words, uncommented};
@@ -10,20 +10,13 @@ fn is_blank(byte: u8) -> bool
     byte == b' ' || byte == b'\t' || byte == b'\r'
 }
 
-// Each of these four is a function of its own, since the check finds what a chain counts where it is returned, and not where it is used further.
+// Each of these three is a function of its own, since the check finds what a chain counts where it is returned, and not where it is used further.
 
-// How many bytes stand before the first newline.
-fn line_len(text: &[u8]) -> usize
-    ensures { result ≡ prefix_len (other newline) text.now }
+// How many bytes stand before the first `end`.
+fn len_before(text: &[u8], end: u8) -> usize
+    ensures { result ≡ prefix_len (other (λ c. c == end)) text.now }
 {
-    text.iter().take_while(|byte| **byte != b'\n').count()
-}
-
-// How many bytes stand before the first '#'.
-fn content_len(line: &[u8]) -> usize
-    ensures { result ≡ prefix_len (other hash) line.now }
-{
-    line.iter().take_while(|byte| **byte != b'#').count()
+    text.iter().take_while(|byte| **byte != end).count()
 }
 
 // How many blanks the text begins with.
@@ -48,7 +41,7 @@ pub fn split_line(text: &[u8]) -> Option<(&[u8], &[u8])>
     if text.is_empty() {
         return None;
     }
-    let end = line_len(text);
+    let end = len_before(text, b'\n');
     if end < text.len() {
         Some((&text[..end], &text[end + 1..]))
     } else {
@@ -61,7 +54,7 @@ pub fn split_line(text: &[u8]) -> Option<(&[u8], &[u8])>
 pub(crate) fn without_comment(line: &[u8]) -> &[u8]
     ensures { result.now ≡ uncommented line.now }
 {
-    &line[..content_len(line)]
+    &line[..len_before(line, b'#')]
 }
 
 // The line from its first word on.

@@ -16,10 +16,10 @@ pub returns-then-end-text : goal.returns-then-end-text
 unfolding lines
 returns-then-end-text c =
     let text = c.args.text.now in
-    let end = c.line_len-end.result in
+    let end = c.len_before-end.result in
     let rest = length-drop (end + 1) text in
     record {
-      first = rw take_rest (pieces_first newline text end c.line_len-end.ensures c.if-end-text.true);
+      first = rw take_rest (pieces_first newline text end c.len_before-end.ensures c.if-end-text.true);
       shorter = rw take_rest (omega arith);
     }
 
@@ -29,5 +29,5 @@ returns-else-end-text c =
     let text = c.args.text.now in
     let some = eqb-false _ _ (sym c.if-is_empty.ensures) in
     let all = prefix_len-le-length (other newline) text in
-    let end = c.line_len-end.ensures in
+    let end = c.len_before-end.ensures in
     record { first = pieces_last newline text (omega arith) (omega arith); shorter = omega arith }
