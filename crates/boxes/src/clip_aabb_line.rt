@@ -191,6 +191,7 @@ fn inside_only(aabb: &Aabb, origin: Vector) -> Option<LineClip>
 
 // The two ends of the line's part within the box, none where the line misses the box or lies wholly before its origin.
 // Where the direction is zero or no number, both ends are the origin, if it is in the box.
+// The line comes as two vectors, and not as a ray, as in parry's function of this name.
 #[tactic(auto, using(crate::proofs::EndPoints::near_end, crate::proofs::EndPoints::far_end), unfolding(crate::specs::Clip::clip_line))]
 pub fn clip_aabb_line(aabb: &Aabb, origin: Vector, dir: Vector) -> Option<LineClip>
     ensures { result ≡ clip_line aabb.now origin dir }

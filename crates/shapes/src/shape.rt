@@ -1,4 +1,4 @@
-// Any of the shapes.
+// Any of the shapes. They are these six and no others, so this is an enum.
 ghost use Rattle.std.specs.Prelude.{◌≡◌};
 ghost use Rattle.shapes.specs.Shape.{shape_cast};
 ghost use Rattle.boxes.specs.BoxLemmas.{box_timed, box_kept};
