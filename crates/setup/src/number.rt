@@ -14,7 +14,6 @@ fn natural_number(digits: &[u8]) -> Option<u32>
         return None;
     }
     let mut value = 0;
-    // a loop, whose invariant bounds the value; in the closure of a `try_fold` nothing would
     for digit in digits {
         if !digit.is_ascii_digit() {
             return None;

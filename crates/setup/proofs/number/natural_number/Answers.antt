@@ -1,25 +1,19 @@
-use Rattle.std.proofs.Common.{Some, sym, refl, ap, ◌∙◌, arith, rules}
+use Rattle.std.proofs.Common.{Some, sym, ap, ◌∙◌, arith, rules}
 use Rattle.std.proofs.lemmas.Bool.{eqb-true, eqb-false}
 use Rattle.setup.proofs.Numbers.{read_more, read_all, read_no, read_bound, natural_some, natural_letters, natural_empty, natural_long}
 use Rattle.setup.proofs.number.natural_number.Goals as goal
 use Rattle.setup.proofs.number.natural_number.Goals.{then-is_empty-via-then-is_empty, then-is_empty-via-else-is_empty+then-digits-gt9}
 
-pub returns-then-is_empty : goal.returns-then-is_empty
-returns-then-is_empty c = record {
-  value =
-      elim c.then-is_empty.branch [
-        | then-is_empty-via-then-is_empty w ↦ sym (natural_empty _ (eqb-true _ _ (sym w.if-is_empty.ensures)))
-        | then-is_empty-via-else-is_empty+then-digits-gt9 w ↦ sym (natural_long _ w.if-digits-gt9.true)
-      ];
-  bound = tt;
-}
+pub returns-then-is_empty-clause-value : goal.returns-then-is_empty-clause-value
+returns-then-is_empty-clause-value c =
+    elim c.then-is_empty.branch [
+      | then-is_empty-via-then-is_empty w ↦ sym (natural_empty _ (eqb-true _ _ (sym w.if-is_empty.ensures)))
+      | then-is_empty-via-else-is_empty+then-digits-gt9 w ↦ sym (natural_long _ w.if-digits-gt9.true)
+    ]
 
-pub loop-digit-init : goal.loop-digit-init
-loop-digit-init c = record { digits = refl; value = refl; small = omega arith }
-
-pub returns-then-not-is_ascii_digit : goal.returns-then-not-is_ascii_digit
-returns-then-not-is_ascii_digit c =
-    record { value = sym (natural_letters _ (read_no _ _ _ c.loop-digit.invariant c.loop-digit-test.true (sym c.if-not-is_ascii_digit.ensures.value))); bound = tt }
+pub returns-then-not-is_ascii_digit-clause-value : goal.returns-then-not-is_ascii_digit-clause-value
+returns-then-not-is_ascii_digit-clause-value c =
+    sym (natural_letters _ (read_no _ _ _ c.loop-digit.invariant c.loop-digit-test.true (sym c.if-not-is_ascii_digit.ensures.value)))
 
 pub overflow_mul-value : goal.overflow_mul-value
 overflow_mul-value c = search (rules, read_bound c.args.digits.now c.loop-digit.digit-index c.loop-digit.value c.loop-digit.invariant 8)

@@ -6,11 +6,9 @@ use Rattle.setup.specs.Grammar.{lines, other, newline}
 use Rattle.setup.proofs.Pieces.{pieces_first, pieces_last}
 use Rattle.setup.proofs.scan.split_line.Goals as goal
 
-pub returns-then-is_empty : goal.returns-then-is_empty
+pub returns-then-is_empty-clause-first : goal.returns-then-is_empty-clause-first
 unfolding lines
-returns-then-is_empty c =
-    let empty = eqb-true _ _ (sym c.if-is_empty.ensures) in
-    record { first = ap lines (nil_from_length _ empty); shorter = tt }
+returns-then-is_empty-clause-first c = let empty = eqb-true _ _ (sym c.if-is_empty.ensures) in ap lines (nil_from_length _ empty)
 
 pub returns-then-end-text : goal.returns-then-end-text
 unfolding lines
@@ -23,11 +21,11 @@ returns-then-end-text c =
       shorter = rw take_rest (omega arith);
     }
 
-pub returns-else-end-text : goal.returns-else-end-text
+pub returns-else-end-text-clause-first : goal.returns-else-end-text-clause-first
 unfolding lines
-returns-else-end-text c =
+returns-else-end-text-clause-first c =
     let text = c.args.text.now in
     let some = eqb-false _ _ (sym c.if-is_empty.ensures) in
     let all = prefix_len-le-length (other newline) text in
     let end = c.len_before-end.ensures in
-    record { first = pieces_last newline text (omega arith) (omega arith); shorter = omega arith }
+    pieces_last newline text (omega arith) (omega arith)
