@@ -73,7 +73,8 @@ impl<'a> Words<'a> {
         let mut kinds = [0u8; 512];
         for (cells, digits) in kinds.chunks_mut(8).zip(word.chunks(2)) {
             let [high, low] = digits else {
-                return None;
+                // the word has two digits for each eight cells
+                unreachable!()
             };
             let byte = hex_digit(*high)? << 4 | hex_digit(*low)?;
             for (bit, kind) in cells.iter_mut().enumerate() {
