@@ -39,7 +39,8 @@ fn chunk_fits(key: IVector, voxel_size: Vector, id: u32) -> bool
     key.all_between::<-4096, 4096>() && id <= 8_388_607 && sizes_fit(voxel_size)
 }
 
-// The test before a making: the size exponent, where there is one, the chunk key, the cell size and the id.
+// The test before a making: the size exponent, where there is one, the chunk key, the cell size and the id,
+// one by one, as they are no frame before it.
 pub fn check_making(
     exponent: Option<i32>,
     key: IVector,

@@ -93,7 +93,7 @@ impl RayIntersection {
     }
 }
 
-// A thing that a ray can hit. Its meaning is a function from a ray, a reach and the solid flag to a hit or none;
+// A thing that a ray can hit, by the three parameters of parry's casts. Its meaning is a function from a ray, a reach and the solid flag to a hit or none;
 // under `solid` a ray that starts inside hits at once.
 // For every reach that is a number not below zero:
 // - time law: a hit's time is a number from 0 to the reach;

@@ -30,7 +30,7 @@ pub fn min(x: f32, y: f32) -> f32
     if x <= y || y.is_nan() { x } else { y }
 }
 
-// The greater of two numbers, likewise.
+// The greater of two numbers, likewise. A function for both would take the comparison as a parameter and be no shorter.
 pub fn max(x: f32, y: f32) -> f32
     ensures { result ≡ float_max x y }
 {

@@ -3,7 +3,7 @@ ghost use Rattle.stores.specs.Few.{DistinctCells};
 
 pub mod cells;
 
-// A place has the number of a filled cell, or none.
+// A place has the number of a filled cell, or none. An array, since a store takes no heap.
 #[derive(Drop)]
 pub struct FewStore {
     places: [Option<u16>; 64],

@@ -70,6 +70,7 @@ impl<'a, S: CellStore> Walk<'a, S> {
         ensures { result ≡ walk (turn_at self.now.chunk.now.frame (S.CellStore.kinds self.now.chunk.now.cells) self.now.ray.now self.now.limit self.now.solid) 25 first }
     {
         let mut key = first;
+        // counted by hand, as it is part of the answer; a `for` to 25 would have an end that is never reached
         let mut visited = 0;
         loop {
             visited += 1;
