@@ -79,7 +79,7 @@ impl fmt::Display for EndText {
 
 // The answer to a case. It is written in the words of a vector line.
 #[derive(Clone, Copy)]
-pub enum Answer {
+pub(crate) enum Answer {
     Hit(Option<RayIntersection>),
     LineClip(Option<LineClip>),
     RayClip(Option<(f32, f32)>),
@@ -143,7 +143,7 @@ fn look(asked: &Look) -> Result<ChunkCast, Refusal> {
 }
 
 impl Answer {
-    pub fn new(case: &Case) -> Answer {
+    pub(crate) fn new(case: &Case) -> Answer {
         match case {
             Case::Cast { shape, asked } => {
                 Answer::Hit(shape.cast_local_ray_and_get_normal(
