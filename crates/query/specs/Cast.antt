@@ -1,5 +1,5 @@
 -- What a cast answers: a hit or none, and what its time may be.
-use Rattle.std.specs.Prelude.{T, Some, None, Option, Float}
+use Rattle.std.specs.Prelude.{T, Some, None, Option, option_map, Float}
 use Rattle.std.specs.Float.Ieee.{le}
 use Rattle.math.specs.declared.Vector.{Vector}
 use Rattle.math.specs.declared.pose.Pose.{Pose}
@@ -41,9 +41,7 @@ and_then None f = None
 and_then (Some x) f = f x
 
 abbrev pub time_of : Option RayIntersection → Option Float
-time_of None = None
-time_of (Some h) = Some h.time_of_impact
+time_of = option_map (λ h. h.time_of_impact)
 
 abbrev pub world_hit_of : Pose → Option RayIntersection → Option RayIntersection
-world_hit_of m None = None
-world_hit_of m (Some h) = Some (world_hit m h)
+world_hit_of m = option_map (world_hit m)

@@ -20,15 +20,10 @@ fn earlier(best: Option<FirstHit>, index: usize, found: Option<RayIntersection>)
     let Some(hit) = found else {
         return best;
     };
-    match best {
-        None => Some(FirstHit { index, hit }),
-        Some(old) => {
-            if hit.time_of_impact < old.hit.time_of_impact {
-                Some(FirstHit { index, hit })
-            } else {
-                Some(old)
-            }
-        }
+    if best.is_none_or(|old| hit.time_of_impact < old.hit.time_of_impact) {
+        Some(FirstHit { index, hit })
+    } else {
+        best
     }
 }
 

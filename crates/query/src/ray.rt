@@ -85,11 +85,10 @@ impl RayIntersection {
     pub fn transform_by(&self, m: &Pose) -> RayIntersection
         ensures { result ≡ world_hit m.now self.now }
     {
-        RayIntersection::new(
-            self.time_of_impact,
-            m.rotation.rotate(self.normal),
-            self.feature,
-        )
+        RayIntersection {
+            normal: m.rotation.rotate(self.normal),
+            ..*self
+        }
     }
 }
 

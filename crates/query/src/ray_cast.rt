@@ -1,4 +1,5 @@
 // What follows from a full cast, once for every kind of thing: the time alone, whether there is a hit, and the same of a thing in a pose.
+// The functions take what parry's methods of these names take, one by one.
 ghost use Rattle.std.specs.Prelude.{◌≡◌, true, is_some};
 ghost use Rattle.query.specs.Cast.{local_ray, time_of, world_hit_of};
 

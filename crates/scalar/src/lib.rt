@@ -42,7 +42,7 @@ fn root_by_estimate(x: f32) -> f32
     ensures { result ≡ root x }
 {
     let bits = std::num::f32_to_bits_with_nan(x);
-    if bits < SMALLEST_NORMAL || bits >= INFINITY {
+    if !(SMALLEST_NORMAL..INFINITY).contains(&bits) {
         return x.sqrt();
     }
     let exponent = bits / 0x80_0000;
@@ -58,7 +58,7 @@ fn certified_root(x: f32, n: u64, k: u32, s: u32) -> f32
     requires { Scaled x n k }
     ensures { result ≡ root x }
 {
-    if s < 0x80_0000 || s >= 0x100_0000 {
+    if !(0x80_0000..0x100_0000).contains(&s) {
         return x.sqrt();
     }
     let wide = s as u64;

@@ -1,4 +1,4 @@
-use Rattle.std.proofs.Common.{T, ◌∙◌}
+use Rattle.std.proofs.Common.{T, ◌∙◌, rules}
 use mathlib.Core.Path.{subst⁻¹}
 use Rattle.scalar.proofs.RootTest.{estimate_is_root}
 use Rattle.scalar.proofs.certified_root.Goals as goal
@@ -7,4 +7,4 @@ pub returns : goal.returns
 returns c =
     c.f32_from_bits_with_nan.ensures
     ∙ estimate_is_root c.args.x c.args.n c.args.k c.args.s (subst⁻¹ T c.well_formed.0.1 tt) c.requires
-    c.if-s-lt8388608.false c.if-s-ge16777216.false c.if-n-wide.false c.if-n-square.false
+    (search rules) (search rules) c.if-n-wide.false c.if-n-square.false
