@@ -13,6 +13,7 @@ pub enum Side {
 }
 
 // 0 where no face was passed, 1 to 3 for the low faces of x, y and z, -1 to -3 for the high ones.
+// A number, as the rules have sides in comparison vectors.
 pub fn side_number(side: Option<Side>) -> i32
     ensures { result ≡ side_number side }
 {
@@ -47,7 +48,7 @@ pub struct Bound {
 pub type Interval = Ends<Bound>;
 
 // An end of the clipped line: `origin + dir * time`, the normal of the face there, and which face it is:
-// none where no face was passed, since the direction is zero or no number and the origin is in the box.
+// none where no face was passed, as where the direction is zero or no number and the origin is in the box.
 #[derive(Clone, Copy, PartialEq, Debug)]
 pub struct LinePoint {
     pub time: f32,
@@ -191,7 +192,7 @@ fn inside_only(aabb: &Aabb, origin: Vector) -> Option<LineClip>
 
 // The two ends of the line's part within the box, none where the line misses the box or lies wholly before its origin.
 // Where the direction is zero or no number, both ends are the origin, if it is in the box.
-// The line comes as two vectors, and not as a ray, as in parry's function of this name.
+// The line comes as two vectors, as in parry's function of this name; a `Ray` begins at its origin, and a line does not.
 #[tactic(auto, using(crate::proofs::EndPoints::near_end, crate::proofs::EndPoints::far_end), unfolding(crate::specs::Clip::clip_line))]
 pub fn clip_aabb_line(aabb: &Aabb, origin: Vector, dir: Vector) -> Option<LineClip>
     ensures { result ≡ clip_line aabb.now origin dir }

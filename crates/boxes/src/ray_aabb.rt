@@ -25,6 +25,7 @@ impl From<Side> for FeatureId {
     }
 }
 
+// Where a ray hits the box that leaves `clip` of it, if that is within the reach.
 #[tactic(auto, unfolding(crate::specs::Box::box_point))]
 fn ray_aabb(clip: LineClip, max_time_of_impact: f32, solid: bool) -> Option<LinePoint>
     ensures { result ≡ box_point clip max_time_of_impact solid }

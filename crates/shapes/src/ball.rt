@@ -19,7 +19,7 @@ pub struct BallHit<T> {
     pub at: T,
 }
 
-// When the ray hits the ball. One that never does counts as starting outside.
+// When the ray hits the ball, by the parameters of parry's function. One that never does counts as starting outside.
 // Under `solid` a ray from inside hits at once, else where it leaves. Rounding can put that time below zero.
 #[tactic(auto, unfolding(crate::specs::Ball::ball_time, crate::specs::Ball::ball_roots, crate::specs::Ball::time_on_sphere))]
 pub fn ray_toi_with_ball(
@@ -94,6 +94,7 @@ impl RayCast for Ball {
         solid: bool,
     ) -> Option<RayIntersection> {
         let hit = ray_toi_and_normal_with_ball(Vector::zero(), self.radius, ray, solid)?.at;
+        // two comparisons: with `contains`, which is the same for floats, the proof was not found
         (hit.time_of_impact >= 0.0 && hit.time_of_impact <= max_time_of_impact).then_some(hit)
     }
 }

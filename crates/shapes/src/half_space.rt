@@ -43,6 +43,7 @@ impl RayCast for HalfSpace {
             self.normal
         };
         let hit = RayIntersection::new(t, normal, FeatureId::Face(0));
+        // two comparisons: with `contains`, which is the same for floats, the proof was not found
         (t >= 0.0 && t <= max_time_of_impact).then_some(hit)
     }
 }

@@ -30,7 +30,7 @@ fn hit_within(
     (!outside).then_some(RayIntersection::new(height * (1.0 / size), normal, feature))
 }
 
-// Where a ray hits a triangle: Face(0) on the side that its normal (b - a) x (c - a) points to, Face(1) on the other.
+// Where a ray hits a triangle, by the parameters of parry's function: Face(0) on the side that its normal (b - a) x (c - a) points to, Face(1) on the other.
 // The normal of the hit is against the ray.
 #[tactic(auto, unfolding(crate::specs::Triangle::triangle_hit, crate::specs::Triangle::seen_from_corner, crate::specs::Triangle::plane_reached, crate::specs::Triangle::plane_crossed))]
 pub fn local_ray_intersection_with_triangle(

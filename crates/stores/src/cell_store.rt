@@ -11,7 +11,7 @@ pub enum StoreRefusal {
 }
 
 // `kinds` maps a cell number to its kind, 0 empty or 1 filled; numbers above 511 have kind 0.
-// A kind is a number and no enum: a store is told one by its number, and refuses a number that is none.
+// A kind is a number and no enum: `set` is told one by its number and refuses a number that is none, and what is read is what was set.
 pub trait CellStore: Sized {
     ghost kinds: { Self → ℕ → ℕ };
 

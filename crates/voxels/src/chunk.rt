@@ -25,7 +25,7 @@ impl<S: CellStore> Chunk<S> {
         }
     }
 
-    // The kind of the cell at a key, none outside the chunk.
+    // The kind of the cell at a key, by its number as the store has it; none outside the chunk.
     pub fn voxel_state(&self, key: VoxelKey) -> Option<u8>
         ensures { result ≡ kind_at (S.CellStore.kinds self.now.cells) key }
     {

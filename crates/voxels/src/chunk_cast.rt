@@ -10,6 +10,7 @@ pub struct ChunkCast {
 }
 
 // One turn of the walk: a hit, the end, or the next key.
+// No `ControlFlow` of an option: the three are matched at once, and their names say more than two that hold a third.
 #[derive(Clone, Copy)]
 pub enum Turn {
     Hit(RayIntersection),

@@ -14,7 +14,13 @@ use query::feature_id::FeatureId;
 use query::ray::{Ray, RayCast, RayIntersection};
 use stores::cell_store::CellStore;
 
-// Whether a kind of cell stops a line.
+// The cast of a ray that misses the chunk, or meets it past its reach.
+const NOT_MET: ChunkCast = ChunkCast {
+    hit: None,
+    visited: 0,
+};
+
+// Whether a kind of cell, by its number as the stores have it, stops a line.
 fn stops(kind: u8) -> bool
     ensures { result ≡ stops kind }
 {
@@ -46,7 +52,10 @@ impl<'a, S: CellStore> Walk<'a, S> {
             // a key with a kind is in the chunk, so it has an id
             unreachable!()
         };
-        Some(RayIntersection::new(hit.time_of_impact, hit.normal, FeatureId::Face(id)))
+        Some(RayIntersection {
+            feature: FeatureId::Face(id),
+            ..hit
+        })
     }
 
     // One turn of the walk.
@@ -97,16 +106,10 @@ impl<S: CellStore> Chunk<S> {
         ensures others { OnOtherCells self.now.frame (S.CellStore.kinds self.now.cells) ray.now max_time_of_impact solid result }
     {
         let Some((start, end)) = self.frame.local_aabb().clip_ray_parameters(ray) else {
-            return ChunkCast {
-                hit: None,
-                visited: 0,
-            };
+            return NOT_MET;
         };
         if start > max_time_of_impact {
-            return ChunkCast {
-                hit: None,
-                visited: 0,
-            };
+            return NOT_MET;
         }
         let limit = scalar::min(end, max_time_of_impact);
         let first = self.frame.voxel_at_point(ray.point_at(start));

@@ -1,5 +1,6 @@
 // The step of a walk from one cell to the next along a ray.
 ghost use Rattle.std.specs.Prelude.{◌≡◌};
+ghost use Rattle.math.specs.Vectors.{component};
 ghost use Rattle.voxels.specs.Chunk.{step_time, step_times, all_later, next_place, next_key, step_from};
 
 use boxes::aabb::Aabb;
@@ -7,16 +8,18 @@ use grid::voxel_key::VoxelKey;
 use math::{Axis, Vector};
 use query::ray::Ray;
 
-// When the ray is at the height of the face ahead. A face that rounding has put behind the origin is passed at once,
+// When the ray is at the height of the face ahead on an axis. A face that rounding has put behind the origin is passed at once,
 // so that the cells ahead of it are not lost.
 #[tactic(auto, unfolding(crate::specs::Chunk::step_time))]
-fn step_time(low: f32, high: f32, origin: f32, dir: f32) -> f32
-    ensures { result ≡ step_time low high origin dir }
+fn step_time(aabb: &Aabb, ray: &Ray, axis: Axis) -> f32
+    ensures { result ≡ step_time (component aabb.now.mins axis) (component aabb.now.maxs axis) (component ray.now.origin axis) (component ray.now.dir axis) }
 {
+    let origin = ray.origin.vget(axis);
+    let dir = ray.dir.vget(axis);
     let time = if dir > 0.0 {
-        (high - origin) / dir
+        (aabb.maxs.vget(axis) - origin) / dir
     } else if dir < 0.0 {
-        (low - origin) / dir
+        (aabb.mins.vget(axis) - origin) / dir
     } else {
         return f32::MAX;
     };
@@ -27,9 +30,9 @@ fn step_times(aabb: &Aabb, ray: &Ray) -> Vector
     ensures { result ≡ step_times aabb.now ray.now }
 {
     Vector {
-        x: step_time(aabb.mins.x, aabb.maxs.x, ray.origin.x, ray.dir.x),
-        y: step_time(aabb.mins.y, aabb.maxs.y, ray.origin.y, ray.dir.y),
-        z: step_time(aabb.mins.z, aabb.maxs.z, ray.origin.z, ray.dir.z),
+        x: step_time(aabb, ray, Axis::X),
+        y: step_time(aabb, ray, Axis::Y),
+        z: step_time(aabb, ray, Axis::Z),
     }
 }
 
@@ -45,11 +48,9 @@ fn next_place(place: u8, dir: f32) -> Option<u8>
     ensures { result ≡ next_place place dir }
 {
     if dir > 0.0 {
-        if place < 7 { Some(place + 1) } else { None }
-    } else if place > 0 {
-        Some(place - 1)
+        (place < 7).then(|| place + 1)
     } else {
-        None
+        place.checked_sub(1)
     }
 }
 
