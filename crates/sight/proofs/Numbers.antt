@@ -3,6 +3,7 @@ use Rattle.std.proofs.Common.{◌≡◌, ℕ, ◌+◌, ◌*◌, Bool, true, fals
 use Rattle.std.specs.Option.{ok_or}
 use Rattle.std.specs.Int.{FitsUnsignedBits}
 use Rattle.std.specs.Prelude.{nat_lt}
+use Rattle.std.proofs.Math.Bool.{and-false}
 use Rattle.std.proofs.lemmas.Int.{ints}
 use Rattle.std.proofs.lemmas.Bool.Decides.{nat_tests}
 use Rattle.math.specs.declared.IVector.{IVector}
@@ -31,10 +32,6 @@ not_in_chunk : (z : ℤ) → (FitsUnsignedBits 8 z → ⊥) → between (pos 0) 
 not_in_chunk (pos n) h = let l : 256 ≤ n = omega (arith, h) in grind (arith, ints, nat_tests)
 not_in_chunk (negsuc n) h = refl
 
-and_false : (a : Bool) → (a && false) ≡ false
-and_false true = refl
-and_false false = refl
-
 module _ (c : IVector) where
   pub no_x : (FitsUnsignedBits 8 c.x → ⊥) → Err CellOutside ≡ index_answer c
   unfolding index_answer
@@ -42,8 +39,8 @@ module _ (c : IVector) where
 
   pub no_y : (FitsUnsignedBits 8 c.y → ⊥) → Err CellOutside ≡ index_answer c
   unfolding index_answer
-  no_y h = rw (not_in_chunk c.y h, and_false (between (pos 0) (pos 7) c.x)) refl
+  no_y h = rw (not_in_chunk c.y h, and-false (between (pos 0) (pos 7) c.x)) refl
 
   pub no_z : (FitsUnsignedBits 8 c.z → ⊥) → Err CellOutside ≡ index_answer c
   unfolding index_answer
-  no_z h = rw (not_in_chunk c.z h, and_false (between (pos 0) (pos 7) c.y), and_false (between (pos 0) (pos 7) c.x)) refl
+  no_z h = rw (not_in_chunk c.z h, and-false (between (pos 0) (pos 7) c.y), and-false (between (pos 0) (pos 7) c.x)) refl

@@ -25,7 +25,7 @@ pub fn cell_index(cell: IVector) -> Result<u16, Refusal>
 }
 
 impl<S: CellStore> Scan<S> {
-    // Gives a cell a kind; only that cell changes.
+    // Gives a cell a kind, by its number as the store takes it; only that cell changes.
     fn give_kind(&mut self, cell: IVector, kind: u8) -> Result<(), Refusal>
         requires { kind ≤ 1 }
         ensures { GivesKindIn S.CellStore.kinds S.CellStore.capacity self.old self.new cell kind result }

@@ -40,6 +40,7 @@ impl<S: CellStore> Scan<S> {
     }
 
     // The solid cast from camera to target: what stops the line, and how many keys the walk stood on.
+    // The two ends come one by one, as whoever looks has them.
     pub fn look(&self, camera: &GridPoint, target: &GridPoint) -> ChunkCast
         ensures value { result ≡ look_at self.now.exponent self.now.chunk.frame (S.CellStore.kinds self.now.chunk.cells) camera.now target.now }
         ensures named { (h : RayIntersection) → result.hit ≡ Some h → NamesCell self.now.chunk.frame (S.CellStore.kinds self.now.chunk.cells) h }

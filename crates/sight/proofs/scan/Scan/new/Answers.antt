@@ -1,6 +1,7 @@
-use Rattle.std.proofs.Common.{◌≡◌, T, Bool, true, false, ◌&&◌, ℤ, pos, negsuc, Some, ap, ◌∙◌, subst, refl, rules, arith, w32, to_z, of_z}
+use Rattle.std.proofs.Common.{◌≡◌, T, true, false, ℤ, pos, negsuc, Some, ap, ◌∙◌, subst, rules, arith, w32, to_z, of_z}
 use mathlib.Core.Path.{subst⁻¹}
 use lib.Ieee.{Float}
+use Rattle.std.proofs.Math.Bool.{and-false}
 use Rattle.std.proofs.lemmas.Int.{ints}
 use Rattle.std.proofs.lemmas.Result.{err_from_is_err_and}
 use Rattle.math.specs.declared.Vector.{Vector}
@@ -9,10 +10,6 @@ use Rattle.sight.specs.Power.{cube}
 use Rattle.grid.specs.Lawful.{exponent_fits, chunk_fits}
 use Rattle.grid.specs.declared.frame.ChunkFrame.{ChunkFrame}
 use Rattle.sight.proofs.scan.Scan.new.Goals as goal
-
-and_false : (b : Bool) → (b && false) ≡ false
-and_false true = refl
-and_false false = refl
 
 pub returns : goal.returns
 returns g c =
@@ -40,4 +37,4 @@ returns-in_err-frame g c =
     let p = err_from_is_err_and c.from_residual.result c.from_residual.ensures.1 in
     let refused = c.in_err-frame.ensures in
     let chunk : chunk_fits c.args.key (cube c.args.exponent) c.args.id ≡ false = subst (λ (v : Vector). chunk_fits c.args.key v c.args.id ≡ false) size refused.0 in
-    rw (p.1, chunk) (and_false (between (negsuc 9) (pos 10) c.args.exponent), p.2 ∙ refused.1)
+    rw (p.1, chunk) (and-false (between (negsuc 9) (pos 10) c.args.exponent), p.2 ∙ refused.1)
