@@ -253,8 +253,7 @@ fn same_looks_over_both_stores(rt: HostRuntime) -> Result<(), Fail> {
             let target = grid_point(x, 960, z)?;
             let seen = few.look(&camera, &target);
             let known = table.look(&camera, &target);
-            assert_eq!(rt; seen.visited, known.visited);
-            assert_eq!(rt; seen.hit, known.hit);
+            assert_eq!(rt; seen, known);
             match known.hit {
                 Some(_) => blocked = true,
                 None => clear = true,

@@ -31,6 +31,7 @@ impl<S: CellStore> Scan<S> {
         ensures { GivesKindIn S.CellStore.kinds S.CellStore.capacity self.old self.new cell kind result }
     {
         let number = cell_index(cell)?;
+        // no `map_err`: of a closure for any refusal it would not be known that it never meets `Bad`
         match self.chunk.cells.set(number, kind) {
             Ok(()) => Ok(()),
             Err(StoreRefusal::Full) => Err(Refusal::StoreFull),
