@@ -1,9 +1,10 @@
 #!/usr/bin/env python3
-"""Lists the lines of crates/*/src where a plainer form might serve, by point.
+"""Lists the lines of crates/*/src where a plainer form might serve, by point, 1 to 8.
 
-usage: tools/places.py [POINT]
+usage: python3 PATH/TO/tools/places.py [POINT], at the top of a checkout
 
-A line that is printed is a candidate: docs/DESIGN-PASS.md says which of them are places.
+A line that is printed is a candidate: docs/DESIGN-PASS.md says which of them are places. Some patterns are the names of what stood
+at the commit in its first line, so that fewer lines do not say by themselves that less is left.
 """
 import collections
 import glob
@@ -33,7 +34,7 @@ POINTS = {
         r"fn (number|side_number|side_feature|done_or|keyword_of|spells|key_of|or_edge|is_sight|next_key)\b",
         r"fn \w+_text\(",
         r"\b(\w+): \w+\.\1,$",
-        r"(\w+) (<|<=|>|>=) -?\d+ (\|\||&&) \1 (<|<=|>|>=) -?\d+",
+        r"([\w.]+) (<|<=|>|>=) -?\w[\w.]* (\|\||&&) \1 (<|<=|>|>=) -?\w[\w.]*",
         r"\b(id|exponent) as u32",
     ]),
     6: ("buffers, arrays and searches by hand", [
@@ -128,8 +129,27 @@ def together():
             print(f"{len(where)} together: {', '.join(c)}")
 
 
+def proofs():
+    """How much stands in proofs/, and how many answer files only let the check search."""
+    files = [f for f in glob.glob("crates/*/proofs/**/*.antt", recursive=True) if "/out/" not in f]
+    answers = [f for f in files if f.endswith("Answers.antt")]
+    lines = 0
+    searches = 0
+    for path in files:
+        with open(path) as file:
+            text = file.read()
+        lines += text.count("\n")
+        if path in answers:
+            code = [x for x in text.split("\n") if x and not x.startswith(("use ", "pub ", "unfolding ", "--"))]
+            searches += all(re.fullmatch(r"[\w\-'+]+ (g )?c = search rules", x) for x in code)
+    print(f"{len(files)} files")
+    print(f"{lines} lines")
+    print(f"{len(answers)} answer files")
+    print(f"{searches} answer files with nothing but `search rules`")
+
+
 def main():
-    wanted = [int(sys.argv[1])] if len(sys.argv) > 1 else range(1, 8)
+    wanted = [int(sys.argv[1])] if len(sys.argv) > 1 else range(1, 9)
     for point in wanted:
         if point in POINTS:
             print(f"== {point}: {POINTS[point][0]}")
@@ -140,6 +160,11 @@ def main():
         elif point == 5:
             print("== 5: facts and parameters that go together")
             together()
+        elif point == 8:
+            print("== 8: proofs")
+            proofs()
+        else:
+            sys.exit(f"no point {point}")
 
 
 main()
