@@ -1,5 +1,5 @@
 // The answer to what a vector line asks.
-use crate::case::{Asked, Case, Filled, Look};
+use crate::case::{Asked, Case, FilledChunk, Look};
 use boxes::clip_aabb_line::{LineClip, LinePoint, clip_aabb_line, side_number};
 use grid::frame::ChunkFrame;
 use math::{IVector, Vector};
@@ -117,11 +117,12 @@ impl fmt::Display for Answer {
     }
 }
 
-fn cast_in_chunk(filled: &Filled, asked: &Asked) -> Result<ChunkCast, Refusal> {
+fn cast_in_chunk(filled: &FilledChunk, asked: &Asked) -> Result<ChunkCast, Refusal> {
     let id = u32::try_from(filled.id).map_err(|_| Refusal::BadMaking)?;
     let frame = ChunkFrame::new(filled.key, filled.size, id)?;
     let mut chunk: Chunk<TableStore> = Chunk::new(frame);
     for (n, kind) in filled.kinds.iter().enumerate() {
+        // never refused: a kind is 0 or 1 here, a number is below 512, and a table is never full
         let _ = chunk.cells.set(n as u16, *kind);
     }
     Ok(chunk.cast_ray(&asked.ray, asked.reach, asked.solid))

@@ -23,7 +23,7 @@ pub struct Asked {
 
 // A chunk: where it stands, its cells' size, and their kinds by number.
 #[derive(Clone, Copy)]
-pub struct Filled {
+pub struct FilledChunk {
     pub key: IVector,
     pub size: Vector,
     pub id: i32,
@@ -60,7 +60,7 @@ pub enum Case {
         ray: Ray,
     },
     InChunk {
-        filled: Filled,
+        filled: FilledChunk,
         asked: Asked,
     },
     Look(Look),
@@ -122,12 +122,12 @@ fn read_pose(words: &mut Words) -> Option<Pose> {
     })
 }
 
-fn read_filled(words: &mut Words) -> Option<Filled> {
+fn read_filled(words: &mut Words) -> Option<FilledChunk> {
     let key = words.triple()?;
     let size = words.vector()?;
     let id = words.integer()?;
     let kinds = words.kinds()?;
-    Some(Filled {
+    Some(FilledChunk {
         key,
         size,
         id,
@@ -186,8 +186,8 @@ fn read_form(words: &mut Words) -> Option<Case> {
 // None where the line is malformed, a word too many among it.
 pub fn read_case(line: &[u8]) -> Option<Case> {
     let mut words = Words {
-        words: words_of(line),
+        rest: words_of(line),
     };
     let case = read_form(&mut words)?;
-    if words.is_done() { Some(case) } else { None }
+    words.next_word().is_none().then_some(case)
 }

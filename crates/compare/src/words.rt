@@ -5,7 +5,7 @@ use setup::whole_number;
 // What is left of a line.
 #[derive(Drop)]
 pub struct Words<'a> {
-    pub words: setup::Words<'a>,
+    pub rest: setup::Words<'a>,
 }
 
 fn hex_digit(byte: u8) -> Option<u32> {
@@ -23,11 +23,7 @@ fn hex_bits(word: &[u8]) -> Option<u32> {
 
 impl<'a> Words<'a> {
     pub fn next_word(&mut self) -> Option<&'a [u8]> {
-        self.words.next()
-    }
-
-    pub fn is_done(&mut self) -> bool {
-        self.next_word().is_none()
+        self.rest.next()
     }
 
     // A float by its 32 bits, any of them.
@@ -36,10 +32,15 @@ impl<'a> Words<'a> {
         Some(std::num::f32_from_bits_with_nan(bits))
     }
 
+    // Three values, by what reads one.
+    fn three<T: Drop, F: Fn(&mut Words<'a>) -> Option<T>>(&mut self, read: F) -> Option<[T; 3]>
+        requires { F.IsAlwaysCallable read }
+    {
+        Some([read(self)?, read(self)?, read(self)?])
+    }
+
     pub fn vector(&mut self) -> Option<Vector> {
-        let x = self.float()?;
-        let y = self.float()?;
-        let z = self.float()?;
+        let [x, y, z] = self.three(Words::float)?;
         Some(Vector::new(x, y, z))
     }
 
@@ -47,11 +48,8 @@ impl<'a> Words<'a> {
         whole_number(self.next_word()?)
     }
 
-    // `vector` over integers. One helper for both would take the reading as a closure, with a clause that it may be called, and be no shorter.
     pub fn triple(&mut self) -> Option<IVector> {
-        let x = self.integer()?;
-        let y = self.integer()?;
-        let z = self.integer()?;
+        let [x, y, z] = self.three(Words::integer)?;
         Some(IVector { x, y, z })
     }
 

@@ -42,6 +42,7 @@ impl fmt::Display for NumberedCell {
 impl fmt::Display for Outcome {
     ghost output = { outcome_text };
 
+    #[tactic(auto, unfolding(crate::specs::Texts::outcome_text))]
     fn fmt<W: fmt::Write>(&self, f: &mut fmt::Formatter<W>) -> fmt::Result {
         match self {
             Outcome::Blank => write!(f, "nothing to do"),

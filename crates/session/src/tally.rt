@@ -4,7 +4,7 @@ ghost use Rattle.session.specs.Runs.{none_yet, tallied};
 
 use crate::outcome::Outcome;
 
-#[derive(Clone, Copy, Default)]
+#[derive(Clone, Copy, Default, PartialEq, Debug)]
 pub struct Tally {
     pub clear: usize,
     pub blocked: usize,

@@ -1,7 +1,7 @@
 // Whole setup files, line by line.
 use crate::outcome::Outcome;
 use crate::run::{NoRoom, run, run_into};
-use crate::tally::tally_of;
+use crate::tally::{Tally, tally_of};
 use std::test::Fail;
 use stores::cell_store::CellStore;
 use stores::table_store::TableStore;
@@ -46,11 +46,15 @@ fn counts(rt: HostRuntime) -> Result<(), Fail> {
     let text =
         "room 0 0 0 0 0\nmark 1 0 0\nsight 0 0 0 200 0 0\nsight 0 200 0 200 200 0\nmark 9 9 9\n\n# x\nlook\n";
     let outcomes = run::<TableStore>(rt.alloc(), text.as_bytes())?;
-    let tally = tally_of(outcomes.as_slice());
-    assert_eq!(rt; tally.clear, 1);
-    assert_eq!(rt; tally.blocked, 1);
-    assert_eq!(rt; tally.refused, 1);
-    assert_eq!(rt; tally.unclear, 1);
+    assert_eq!(rt;
+        tally_of(outcomes.as_slice()),
+        Tally {
+            clear: 1,
+            blocked: 1,
+            refused: 1,
+            unclear: 1,
+        }
+    );
     Ok(())
 }
 

@@ -7,6 +7,9 @@ use Rattle.std.proofs.lemmas.Bool.{not-false, cases_Bool, cases_lt, cond-true, c
 use Rattle.setup.specs.Grammar.{other, blank, filled, hash, pieces, words, uncommented}
 use Rattle.setup.proofs.Pieces.{pieces_first, pieces_last, pieces_few}
 
+-- by a name that an attribute can say
+pub ruleset leading = (prefix_len-le-length)
+
 -- what stands before the first byte that passes p
 pub uncommented_is : (xs : List ℕ) (n : ℕ) → n ≡ prefix_len (other hash) xs → uncommented xs ≡ take n xs
 uncommented_is [] n e = rw e

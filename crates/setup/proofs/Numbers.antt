@@ -42,6 +42,10 @@ module _ (ds : List ℕ) (i n : ℕ) (so_far : Read ds i n) where
       let ten : 0 < 10 = omega arith in
       omega (arith, so_far.small, pow-le-pow_right ten h)
 
+  -- so that one more digit fits
+  pub read_short : i ≤ 8 → n < 10 ^ 8
+  read_short h = read_bound 8 h
+
 pub natural_some : (ds : List ℕ) → all_ascii_digits ds ≡ true → 0 < length ds → length ds ≤ 9 → natural ds ≡ Some (read_on 0 ds)
 unfolding natural
 natural_some ds q some short = cond-true _ _ _ (and_from _ _ q (and_from _ _ (lt-ltb _ _ some) (le-leb _ _ short)))

@@ -1,6 +1,7 @@
 -- What is written of a statement is read back.
-use Rattle.std.proofs.Common.{◌≡◌, ℕ, suc, ◌+◌, ◌^◌, ◌<◌, Bool, true, false, ◌&&◌, leb, List, [], ◌∷◌, ◌++◌, map, length, get_or, ℤ, pos, negsuc, neg_ℤ, Option, Some, Result, Ok, decimal, refl, ap, ◌∙◌, arith}
+use Rattle.std.proofs.Common.{◌≡◌, ℕ, suc, ◌+◌, ◌^◌, ◌<◌, Bool, true, false, ◌&&◌, leb, List, [], ◌∷◌, ◌++◌, map, length, get_or, ℤ, pos, negsuc, neg_ℤ, Some, Ok, decimal, refl, ap, ◌∙◌, arith}
 use Rattle.std.specs.Option.{option_map}
+use Rattle.std.specs.Result.{result_map_both}
 use Rattle.std.specs.Fmt.{signed_decimal}
 use Rattle.std.specs.List.{prefix_len, AllByRecursion}
 use Rattle.std.specs.Str.{all_ascii_digits}
@@ -12,7 +13,6 @@ use Rattle.setup.specs.declared.Keyword.{Keyword}
 use Rattle.setup.specs.declared.Keyword.TheVariants.{Room, Mark, Wipe, Sight}
 use Rattle.setup.specs.declared.Statement.{Statement}
 use Rattle.setup.specs.declared.Statement.TheVariants as statement
-use Rattle.setup.specs.declared.Expected.{Expected}
 use Rattle.setup.specs.Grammar.{other, blank, hash, words, uncommented, read_on, natural, whole_number, whole_numbers, put, keyword_of, name, stated, said, meaning, meaning_after, line_meaning}
 use Rattle.setup.specs.Texts.{keyword, numbers, spaced, written, Short}
 use Rattle.setup.proofs.Numbers.{natural_some, whole_number-minus, whole_number-plain}
@@ -139,7 +139,7 @@ words_written k zs h =
     ∙ words_solid (name k) (spaced zs) (solid_name k) (name_some k) (spaced_ends zs)
     ∙ ap (λ ws. name k ∷ ws) (words_spaced zs h)
 
-counted : (s : Statement) → meaning_after (Some (keyword s)) (map signed_decimal (numbers s)) ≡ said (keyword s) (whole_numbers 1 (map signed_decimal (numbers s)))
+counted : (s : Statement) → meaning_after (Some (keyword s)) (map signed_decimal (numbers s)) ≡ result_map_both Some (λ e. e) (said (keyword s) (whole_numbers 1 (map signed_decimal (numbers s))))
 counted (statement.Room e k i) = refl
 counted (statement.Mark c) = refl
 counted (statement.Wipe c) = refl
@@ -156,9 +156,5 @@ reads_back s h =
     ap meaning (words_written (keyword s) (numbers s) h)
     ∙ ap (λ o. meaning_after o (map signed_decimal (numbers s))) (keyword_of-name (keyword s))
     ∙ counted s
-    ∙ ap (said (keyword s)) (whole_numbers-signed (numbers s) 1 h)
+    ∙ ap (λ read. result_map_both Some (λ e. e) (said (keyword s) read)) (whole_numbers-signed (numbers s) 1 h)
     ∙ ap (λ t. Ok (Some t)) (stated_numbers s)
-
--- the same of a line that is what is written, and of an answer that is its meaning
-pub says_back : (line : List ℕ) (r : Result (Option Statement) Expected) → r ≡ line_meaning line → (s : Statement) → AllByRecursion Short (numbers s) → line ≡ written s → r ≡ Ok (Some s)
-says_back line r value s h e = value ∙ ap line_meaning e ∙ reads_back s h

@@ -1,6 +1,7 @@
 -- The grammar of a setup file: its lines, the words of a line, and what a line says.
 use Rattle.std.specs.Prelude.{ℕ, ◌+◌, ◌-◌, ◌*◌, Bool, true, false, cond, not, ◌&&◌, ◌||◌, List, [], ◌∷◌, length, ℤ, pos, neg_ℤ, Some, None, Ok, Err, codes, filter, Option, Result, ◌==◌, nat_le, nat_lt, slice_index_or}
 use Rattle.std.specs.Option.{option_map}
+use Rattle.std.specs.Result.{result_map_both}
 use Rattle.std.specs.Str.{all_ascii_digits, bytes_eq}
 use Rattle.math.specs.declared.IVector.{IVector}
 use Rattle.setup.specs.declared.Statement.{Statement}
@@ -121,14 +122,14 @@ abbrev pub placed : Result (List ℤ) ℕ → Result (List ℤ) Expected
 placed (Ok zs) = Ok zs
 placed (Err place) = Err (expected.WholeNumber place)
 
-abbrev pub said : Keyword → Result (List ℤ) ℕ → Result (Option Statement) Expected
-said k (Ok zs) = Ok (Some (stated k zs))
+abbrev pub said : Keyword → Result (List ℤ) ℕ → Result Statement Expected
+said k (Ok zs) = Ok (stated k zs)
 said k (Err place) = Err (expected.WholeNumber place)
 
 -- first the keyword, then the count of the words after it, then each of them
 abbrev pub meaning_after : Option Keyword → List (List ℕ) → Result (Option Statement) Expected
 meaning_after None ws = Err expected.Keyword
-meaning_after (Some k) ws = cond (length ws == count k) (said k (whole_numbers 1 ws)) (Err (expected.Numbers k))
+meaning_after (Some k) ws = cond (length ws == count k) (result_map_both Some (λ e. e) (said k (whole_numbers 1 ws))) (Err (expected.Numbers k))
 
 -- a line with no word says nothing
 abbrev pub meaning : List (List ℕ) → Result (Option Statement) Expected

@@ -6,6 +6,7 @@ use crate::Expected;
 use crate::scan::words_of;
 
 // The number that one to nine digits write.
+#[tactic(auto, using(crate::proofs::Numbers::read_short))]
 fn natural_number(digits: &[u8]) -> Option<u32>
     ensures value { result ≡ natural digits.now }
     ensures bound { elim result [ None ↦ Unit {0} | Some n ↦ n < 10 ^ 9 ] }

@@ -23,7 +23,7 @@ fn keyword_of(word: &[u8]) -> Option<Keyword>
 }
 
 // What the line says, by its keyword and the words after it, of which there are as many as the keyword has numbers.
-fn statement_of(keyword: Keyword, rest: &[u8]) -> Result<Option<Statement>, Expected>
+fn statement_of(keyword: Keyword, rest: &[u8]) -> Result<Statement, Expected>
     requires { length (words rest.now) ≡ count keyword }
     ensures { result ≡ said keyword (whole_numbers 1 (words rest.now)) }
 {
@@ -56,10 +56,11 @@ fn statement_of(keyword: Keyword, rest: &[u8]) -> Result<Option<Statement>, Expe
             }
         }
     };
-    Ok(Some(statement))
+    Ok(statement)
 }
 
 // What the line says, if anything.
+#[tactic(auto, using(crate::proofs::ReadsBack::reads_back))]
 pub fn parse_line(line: &[u8]) -> Result<Option<Statement>, Expected>
     ensures value { result ≡ line_meaning line.now }
     ensures reads_back { (s : Statement) → AllByRecursion Short (numbers s) → line.now ≡ written s → result ≡ Ok (Some s) }
@@ -71,5 +72,5 @@ pub fn parse_line(line: &[u8]) -> Result<Option<Statement>, Expected>
     if count_words(rest) != usize::from(keyword.numbers()) {
         return Err(Expected::Numbers(keyword));
     }
-    statement_of(keyword, rest)
+    statement_of(keyword, rest).map(Some)
 }

@@ -7,10 +7,10 @@ ghost use Rattle.setup.specs.Grammar.{blank, other, newline, hash, lines, words,
 fn is_blank(byte: u8) -> bool
     ensures { result ≡ blank byte }
 {
-    byte == b' ' || byte == b'\t' || byte == b'\r'
+    matches!(byte, b' ' | b'\t' | b'\r')
 }
 
-// Each of these three is a function of its own, since the check finds what a chain counts where it is returned, and not where it is used further.
+// Each of these three is a function of its own, since the check finds what a chain counts where it is returned, and not where it is used further. The last two stop at opposite bytes: a flag to tell them apart would be no plainer.
 
 // How many bytes stand before the first `end`.
 fn len_before(text: &[u8], end: u8) -> usize
@@ -58,6 +58,7 @@ pub(crate) fn without_comment(line: &[u8]) -> &[u8]
 }
 
 // The line from its first word on.
+#[tactic(auto, using(crate::proofs::FirstWord::leading))]
 fn skip_blanks(line: &[u8]) -> &[u8]
     ensures { result.now ≡ drop (prefix_len blank line.now) line.now }
 {
@@ -89,13 +90,13 @@ impl<'a> Iterator for Lines<'a> {
     ghost remaining = { item_count (λ s. lines s.rest.now) };
 
     fn next(&mut self) -> Option<&'a [u8]> {
-        let (line, rest) = split_line(self.rest)?;
-        self.rest = rest;
+        let (line, after) = split_line(self.rest)?;
+        self.rest = after;
         Some(line)
     }
 }
 
-// The words of what is left of a line.
+// The words of what is left of a line. A type of its own beside `Lines`, since one for both would need a trait for the cut, with its law, and two impls of it, for these few lines.
 #[derive(Debug, Drop)]
 pub struct Words<'a> {
     rest: &'a [u8],

@@ -3,7 +3,7 @@
 
 use session::outcome::Outcome;
 use session::run::run;
-use session::tally::tally_of;
+use session::tally::{Tally, tally_of};
 use std::io::Read;
 use std::{env, fs, io};
 use stores::cell_store::CellStore;
@@ -44,11 +44,12 @@ fn check(rt: &HostRuntime) -> anyhow::Result<()> {
         }
         print_outcome(rt, index + 1, sights, outcome)?;
     }
-    let tally = tally_of(outcomes.as_slice());
-    let clear = tally.clear;
-    let blocked = tally.blocked;
-    let refused = tally.refused;
-    let unclear = tally.unclear;
+    let Tally {
+        clear,
+        blocked,
+        refused,
+        unclear,
+    } = tally_of(outcomes.as_slice());
     println!(rt;
         "{sights} sight lines: {clear} clear, {blocked} blocked. {refused} lines refused, {unclear} not understood."
     )?;

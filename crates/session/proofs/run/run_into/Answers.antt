@@ -1,4 +1,4 @@
-use Rattle.std.proofs.Common.{◌≡◌, ℕ, ◌+◌, Bool, true, cond, List, [], ◌∷◌, ◌++◌, length, is_ok, None, vec_items, vec_len, sym, ap, ◌∙◌, subst, true≢false, append_assoc, append-nil, arith, rules}
+use Rattle.std.proofs.Common.{ℕ, List, [], None, sym, subst, true≢false, append-nil, rules}
 use Rattle.setup.specs.Grammar.{lines}
 use Rattle.session.specs.declared.outcome.Outcome.{Outcome}
 use Rattle.session.specs.Runs.{Runs}

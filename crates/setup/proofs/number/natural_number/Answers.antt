@@ -1,4 +1,4 @@
-use Rattle.std.proofs.Common.{Some, sym, ap, ◌∙◌, arith, rules}
+use Rattle.std.proofs.Common.{Some, sym, ap, ◌∙◌, arith}
 use Rattle.std.proofs.lemmas.Bool.{eqb-true, eqb-false}
 use Rattle.setup.proofs.Numbers.{read_more, read_all, read_no, read_bound, natural_some, natural_letters, natural_empty, natural_long}
 use Rattle.setup.proofs.number.natural_number.Goals as goal
@@ -14,12 +14,6 @@ returns-then-is_empty-clause-value c =
 pub returns-then-not-is_ascii_digit-clause-value : goal.returns-then-not-is_ascii_digit-clause-value
 returns-then-not-is_ascii_digit-clause-value c =
     sym (natural_letters _ (read_no _ _ _ c.loop-digit.invariant c.loop-digit-test.true (sym c.if-not-is_ascii_digit.ensures.value)))
-
-pub overflow_mul-value : goal.overflow_mul-value
-overflow_mul-value c = search (rules, read_bound c.args.digits.now c.loop-digit.digit-index c.loop-digit.value c.loop-digit.invariant 8)
-
-pub overflow_add-value : goal.overflow_add-value
-overflow_add-value c = search (rules, read_bound c.args.digits.now c.loop-digit.digit-index c.loop-digit.value c.loop-digit.invariant 8)
 
 pub loop-digit-preserved : goal.loop-digit-preserved
 loop-digit-preserved c =

@@ -1,15 +1,9 @@
-use Rattle.std.proofs.Common.{rules}
-use Rattle.setup.proofs.ReadsBack.{says_back}
+use Rattle.std.proofs.Common.{◌≡◌, ap, ◌∙◌, rules}
+use Rattle.setup.specs.Grammar.{line_meaning}
+use Rattle.setup.proofs.ReadsBack.{reads_back}
 use Rattle.setup.proofs.parse.parse_line.Goals as goal
 
-pub returns-in_default-clause-reads_back : goal.returns-in_default-clause-reads_back
-returns-in_default-clause-reads_back c = says_back c.args.line.now _ (search rules)
-
-pub returns-in_err-keyword-clause-reads_back : goal.returns-in_err-keyword-clause-reads_back
-returns-in_err-keyword-clause-reads_back c = says_back c.args.line.now _ (search rules)
-
-pub returns-then-count_words-from-clause-reads_back : goal.returns-then-count_words-from-clause-reads_back
-returns-then-count_words-from-clause-reads_back c = says_back c.args.line.now _ (search rules)
-
 pub returns-clause-reads_back : goal.returns-clause-reads_back
-returns-clause-reads_back c = says_back c.args.line.now _ (search rules)
+returns-clause-reads_back c s h e =
+    let value : c.map.result ≡ line_meaning c.args.line.now = search rules in
+    value ∙ ap line_meaning e ∙ reads_back s h
