@@ -7,13 +7,8 @@ mod words;
 
 use answer::Answer;
 use case::{Case, read_case};
-use setup::{lines_of, words_of};
+use setup::{before, lines_of, words_of};
 use std::io::Read;
-
-// The line before a '='.
-fn question(line: &[u8]) -> &[u8] {
-    line.split(|byte| *byte == b'=').next().unwrap_or(line)
-}
 
 // The words of the question, then the answer.
 fn print_answer(rt: &HostRuntime, asked: &[u8], case: &Case) -> anyhow::Result<()> {
@@ -30,7 +25,8 @@ fn answer_all(rt: &HostRuntime) -> anyhow::Result<()> {
     let mut text = Vec::new(rt.alloc());
     rt.stdin().read_to_end(&mut text)?;
     for (index, line) in lines_of(text.as_slice()).enumerate() {
-        let asked = question(line);
+        // the question, without its answer
+        let asked = before(line, b'=');
         if words_of(asked).next().is_none() {
             continue;
         }

@@ -14,7 +14,7 @@ mod tests;
 use math::IVector;
 pub use number::whole_number;
 pub use parse::parse_line;
-pub use scan::{Lines, Words, count_lines, lines_of, split_line, split_word, words_of};
+pub use scan::{Lines, Words, before, count_lines, lines_of, split_line, split_word, words_of};
 
 // What a line asks for.
 #[derive(Clone, Copy, PartialEq, Debug)]

@@ -1,5 +1,5 @@
 // Cuts a text into its lines, and a line into its words.
-ghost use Rattle.std.specs.Prelude.{◌≡◌, ◌<◌, ◌≤◌, [], ◌∷◌, length, drop, Some, None, ◌==◌};
+ghost use Rattle.std.specs.Prelude.{◌≡◌, ◌<◌, ◌≤◌, [], ◌∷◌, length, take, drop, Some, None, ◌==◌};
 ghost use Rattle.std.specs.List.{prefix_len};
 ghost use Rattle.std.specs.Iterator.{YieldsFirstRef, item_count};
 ghost use Rattle.setup.specs.Grammar.{blank, other, newline, hash, lines, words, uncommented};
@@ -49,12 +49,19 @@ pub fn split_line(text: &[u8]) -> Option<(&[u8], &[u8])>
     }
 }
 
+// The bytes before the first `end`.
+pub fn before(text: &[u8], end: u8) -> &[u8]
+    ensures { result.now ≡ take (prefix_len (other (λ c. c == end)) text.now) text.now }
+{
+    &text[..len_before(text, end)]
+}
+
 // The bytes before a '#'.
 #[tactic(auto, using(crate::proofs::FirstWord::uncommented_is))]
 pub(crate) fn without_comment(line: &[u8]) -> &[u8]
     ensures { result.now ≡ uncommented line.now }
 {
-    &line[..len_before(line, b'#')]
+    before(line, b'#')
 }
 
 // The line from its first word on.
