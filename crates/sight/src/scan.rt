@@ -27,7 +27,7 @@ pub(crate) fn power_of_two(e: i32) -> f32
 }
 
 impl<S: CellStore> Scan<S> {
-    // A corner of empty cells.
+    // A corner of empty cells. What it is made of comes one by one, as it is tested here.
     pub fn new(exponent: i32, key: IVector, id: u32) -> Result<Scan<S>, Refusal>
         ensures { MatchResult result
             (λ s. ((exponent_fits (Some exponent) && chunk_fits key (cube exponent) id) ≡ true) × ((s.exponent ≡ exponent) × ((s.chunk.frame.key ≡ key) × ((s.chunk.frame.id ≡ id) × ((n : ℕ) → S.CellStore.kinds s.chunk.cells n ≡ 0)))))
