@@ -1,6 +1,6 @@
 // A scanned corner, whose looks are held against the search.
 use crate::generator::Generator;
-use crate::search::{Share, is_near, met_by};
+use crate::search::{Met, Share, is_near, met_by};
 use crate::verdict::Verdict;
 use grid::voxel_key::VoxelKey;
 use looks::look;
@@ -57,7 +57,7 @@ impl Corner {
         Ok(Corner { scan, id, filled })
     }
 
-    // The number of the cell that a hit names, less what comes before the corner's.
+    // The number of the cell that a hit names among all of this id; none where it names no cell from this id on.
     fn named(&self, hit: RayIntersection) -> Option<usize> {
         let FeatureId::Face(face) = hit.feature else {
             return None;
@@ -65,50 +65,71 @@ impl Corner {
         Some(face.checked_sub(self.id.checked_mul(512)?)? as usize)
     }
 
-    // The least share at which the line enters a filled cell whose inside it crosses.
-    fn first_crossed(&self, camera: IVector, target: IVector) -> Option<Share> {
-        let mut first: Option<Share> = None;
+    // What the line meets of the corner's cells.
+    fn met(&self, camera: IVector, target: IVector) -> Met {
+        let mut met = Met::default();
         for (number, is_filled) in self.filled.iter().enumerate() {
-            if !*is_filled {
-                continue;
-            }
-            let Some(met) = met_by(camera, target, cell_at(number)) else {
-                continue;
-            };
-            if met.crossed {
-                first = Some(first.map_or(met.entry, |share| share.earlier(met.entry)));
+            if let Some(meeting) = met_by(camera, target, cell_at(number)) {
+                met.add(meeting, *is_filled);
             }
         }
-        first
+        met
+    }
+
+    // How many of the corner's cells the line crosses, of those that it enters before a share.
+    fn crossed_before(&self, camera: IVector, target: IVector, share: Share) -> usize {
+        (0..512usize)
+            .filter(|number| {
+                met_by(camera, target, cell_at(*number)).is_some_and(|meeting| meeting.crossed
+                    && meeting.entry.is_before(share))
+            })
+            .count()
     }
 
     fn judged(&self, camera: IVector, target: IVector, cast: ChunkCast) -> Verdict {
-        let first = self.first_crossed(camera, target);
+        let met = self.met(camera, target);
         if cast.visited > 22 {
             return Verdict::Wrong("more than 22 keys were visited");
         }
         let Some(hit) = cast.hit else {
-            return match first {
-                None => Verdict::Clear,
-                Some(_) => Verdict::Wrong("clear, and crosses the inside of a filled cell"),
+            if met.first_crossed.is_some() {
+                return Verdict::Wrong("clear, and crosses the inside of a filled cell");
+            }
+            if (cast.visited as usize) < met.crossed {
+                return Verdict::Wrong("fewer keys were visited than it crosses cells");
+            }
+            return if met.touches_filled {
+                Verdict::Open
+            } else {
+                Verdict::Clear
             };
         };
         let Some(number) = self.named(hit) else {
-            return Verdict::Wrong("names a cell before those of the corner");
+            return Verdict::Wrong("names no cell of the corner");
         };
         if self.filled.get(number) != Some(&true) {
-            return Verdict::Wrong("names an empty cell");
+            return Verdict::Wrong("names no filled cell of the corner");
         }
-        let Some(met) = met_by(camera, target, cell_at(number)) else {
+        let Some(named) = met_by(camera, target, cell_at(number)) else {
             return Verdict::Wrong("names a cell that it does not touch");
         };
-        if first.is_some_and(|share| share.is_before(met.entry)) {
+        if met
+            .first_crossed
+            .is_some_and(|share| share.is_before(named.entry))
+        {
             return Verdict::Wrong("names a cell that it enters later than one that it crosses");
         }
-        if !is_near(hit.time_of_impact, met.entry) {
+        if !is_near(hit.time_of_impact, named.entry) {
             return Verdict::Wrong("has a time that is not near its entry");
         }
-        Verdict::Blocked
+        if cast.visited as usize <= self.crossed_before(camera, target, named.entry) {
+            return Verdict::Wrong("fewer keys were visited than it crosses cells before the hit");
+        }
+        if met.first_crossed.is_some() {
+            Verdict::Blocked
+        } else {
+            Verdict::Open
+        }
     }
 
     // The look from camera to target, held against the search.

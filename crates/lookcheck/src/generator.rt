@@ -1,7 +1,7 @@
 // Numbers that look random, the same in every run, and the ends of sight lines made of them.
 use math::IVector;
 
-#[derive(Clone, Copy)]
+#[derive(Drop)]
 pub(crate) struct Generator {
     state: u64,
 }
@@ -26,7 +26,7 @@ impl Generator {
         i32::from(self.below(1024))
     }
 
-    // On a face between cells, or one unit before or after it, and within 0..=1023.
+    // On a face of a cell, or one unit before or after it, and within 0..=1023.
     fn beside_face(&mut self) -> i32 {
         let face = 128 * i32::from(self.below(9));
         (face + i32::from(self.below(3)) - 1).clamp(0, 1023)
@@ -57,7 +57,7 @@ impl Generator {
         }
     }
 
-    // The two ends of a sight line: anywhere, beside faces, along a diagonal, or with one coordinate kept.
+    // The two ends of a sight line: anywhere, beside faces, as far from one another on some of the axes, or with one coordinate kept.
     pub(crate) fn ends(&mut self) -> (IVector, IVector) {
         match self.below(4) {
             0 => (self.point(), self.point()),

@@ -23,7 +23,7 @@ impl Share {
         if self.is_before(other) { other } else { self }
     }
 
-    pub(crate) fn earlier(self, other: Share) -> Share {
+    fn earlier(self, other: Share) -> Share {
         if self.is_before(other) { self } else { other }
     }
 }
@@ -54,6 +54,7 @@ impl Within {
     }
 
     // What a cell's bounds on an axis leave of it; none where the line keeps its coordinate outside them.
+    // No difference of coordinates of the chunk is too large for an i32.
     fn cut(self, camera: i32, target: i32, place: u8) -> Option<Within> {
         let low = 128 * i32::from(place);
         let high = low + 128;
@@ -75,6 +76,32 @@ impl Within {
             until: self.until.earlier(Share { part: last, whole }),
             ..self
         })
+    }
+}
+
+// What a line meets of a corner's cells: whether it touches a filled one, how many it crosses,
+// and the least share at which it enters a filled one that it crosses.
+#[derive(Clone, Copy, Default)]
+pub(crate) struct Met {
+    pub(crate) touches_filled: bool,
+    pub(crate) crossed: usize,
+    pub(crate) first_crossed: Option<Share>,
+}
+
+impl Met {
+    pub(crate) fn add(&mut self, meeting: Meeting, is_filled: bool) {
+        self.touches_filled |= is_filled;
+        if !meeting.crossed {
+            return;
+        }
+        self.crossed = self.crossed.saturating_add(1);
+        if is_filled {
+            let entry = meeting.entry;
+            let first = self
+                .first_crossed
+                .map_or(entry, |share| share.earlier(entry));
+            self.first_crossed = Some(first);
+        }
     }
 }
 
@@ -101,7 +128,7 @@ pub(crate) fn is_near(time: f32, share: Share) -> bool {
     difference_small(time, share).unwrap_or(false)
 }
 
-// None for a time below 0, above 1 or that is no number.
+// None for a time below 0, from 2 on, or that is no number.
 fn difference_small(time: f32, share: Share) -> Option<bool> {
     // The sign bit of -0 is no exponent.
     let bits = std::num::f32_to_bits_with_nan(if time == 0.0 { 0.0 } else { time });
