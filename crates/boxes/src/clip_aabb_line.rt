@@ -198,12 +198,12 @@ pub fn clip_aabb_line(aabb: &Aabb, origin: Vector, dir: Vector) -> Option<LineCl
     ensures { result ≡ clip_line aabb.now origin dir }
 {
     let line = clip_slabs(aabb, origin, dir)?;
-    // The normal is out of the box at the entry, and into it at the exit.
-    match (
-        end_point(line.near, dir, -1.0),
-        end_point(line.far, dir, 1.0),
-    ) {
-        (Some(near), Some(far)) => Some(Ends { near, far }),
-        _ => inside_only(aabb, origin),
-    }
+    // The normal is out of the box at the entry, and into it at the exit. That of the exit is made only where the entry has one.
+    let Some(near) = end_point(line.near, dir, -1.0) else {
+        return inside_only(aabb, origin);
+    };
+    let Some(far) = end_point(line.far, dir, 1.0) else {
+        return inside_only(aabb, origin);
+    };
+    Some(Ends { near, far })
 }

@@ -32,16 +32,9 @@ impl<'a> Words<'a> {
         Some(std::num::f32_from_bits_with_nan(bits))
     }
 
-    // Three values, by what reads one.
-    fn three<T: Drop, F: Fn(&mut Words<'a>) -> Option<T>>(&mut self, read: F) -> Option<[T; 3]>
-        requires { F.IsAlwaysCallable read }
-    {
-        Some([read(self)?, read(self)?, read(self)?])
-    }
-
+    // Beside `triple`, since one function for both would take what reads a word as a closure, and ask something of it by a clause.
     pub fn vector(&mut self) -> Option<Vector> {
-        let [x, y, z] = self.three(Words::float)?;
-        Some(Vector::new(x, y, z))
+        Some(Vector::new(self.float()?, self.float()?, self.float()?))
     }
 
     pub fn integer(&mut self) -> Option<i32> {
@@ -49,8 +42,11 @@ impl<'a> Words<'a> {
     }
 
     pub fn triple(&mut self) -> Option<IVector> {
-        let [x, y, z] = self.three(Words::integer)?;
-        Some(IVector { x, y, z })
+        Some(IVector {
+            x: self.integer()?,
+            y: self.integer()?,
+            z: self.integer()?,
+        })
     }
 
     // 0 or 1.

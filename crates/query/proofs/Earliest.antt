@@ -1,5 +1,5 @@
 -- The first hit among the first n things is the earliest of their hits.
-use Rattle.std.proofs.Common.{◌≡◌, ℕ, zero, suc, ◌<◌, Bool, true, false, cond, not, T, List, [], ◌∷◌, length, get_or, Some, None, Option, sym, refl, ◌∙◌, subst, inl, inr, arith}
+use Rattle.std.proofs.Common.{◌≡◌, ℕ, zero, suc, ◌<◌, Bool, true, false, cond, not, T, List, [], ◌∷◌, length, get_or, Some, None, Option, is_some, sym, refl, true≢false, ◌∙◌, subst, inl, inr, arith}
 use lib.Ieee.{Float, lt, le}
 use Rattle.std.proofs.lemmas.Bool.{cases_eq}
 use Rattle.scalar.specs.Single.{Number}
@@ -15,6 +15,12 @@ time h = h.time_of_impact
 -- what holds of each index below n, and of n, holds of each below suc n
 below_suc : (P : ℕ → Type 0) (n : ℕ) → ((k : ℕ) → k < n → P k) → P n → (k : ℕ) → k < suc n → P k
 below_suc P n before here k l = elim (cases_eq k n) [ inl e ↦ subst P (sym e) here | inr e ↦ before k (omega arith) ]
+
+-- an element that is not hit leaves the best so far
+pub earlier_missed : (best : Option FirstHit) (i : ℕ) (o : Option RayIntersection) → is_some o ≡ false → earlier best i o ≡ best
+unfolding earlier
+earlier_missed best i None e = refl
+earlier_missed best i (Some h) e = absurd (true≢false e)
 
 module _ (hits : ℕ → Option RayIntersection) (n : ℕ) where
   -- element n is not hit

@@ -40,7 +40,10 @@ pub fn first_hit<E: RayCast>(
     let mut best: Option<FirstHit> = None;
     for (i, thing) in things.iter().enumerate() {
         let found = thing.cast_local_ray_and_get_normal(ray, max_time_of_impact, solid);
-        best = earlier(best, i, found);
+        // an element that is not hit changes nothing, and is not to cost a copy of the best so far
+        if found.is_some() {
+            best = earlier(best, i, found);
+        }
     }
     best
 }

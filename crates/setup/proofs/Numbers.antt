@@ -4,9 +4,11 @@ use native.Mathlib.Nat.{pow-le-pow_right}
 use Rattle.std.specs.Option.{option_map}
 use Rattle.std.specs.Char.{is_ascii_digit}
 use Rattle.std.specs.Str.{all_ascii_digits}
-use Rattle.std.proofs.lemmas.List.{at_drop_more, at_drop_all}
+use Rattle.std.proofs.lemmas.List.{at_drop_more, at_drop_all, get_or-take}
 use Rattle.std.proofs.lemmas.Bool.{cond-true, cond-false, and_from, and_left, and_right, and_parts, lt-ltb, le-ltb, le-leb, lt-leb, leb-true, eq-eqb, ne_eqb}
-use Rattle.setup.specs.Grammar.{read_on, natural, whole_number, whole_numbers}
+use Rattle.setup.specs.Grammar.{read_on, natural, whole_number, whole_numbers, count, nth, stated}
+use Rattle.setup.specs.declared.Keyword.{Keyword}
+use Rattle.setup.specs.declared.Keyword.TheVariants.{Room, Mark, Wipe, Sight}
 
 -- the first i bytes of ds are digits and write n
 pub record Read (ds : List ℕ) (i n : ℕ) : Type 0 where
@@ -82,3 +84,14 @@ pub record Gathered (m : ℕ) (all : List (List ℕ)) (n : ℕ) (zs : List ℤ) 
   pub room : length zs ≡ m
   pub left : n + length ws ≡ length all
   pub read : whole_numbers 1 all ≡ after (take n zs) (whole_numbers (n + 1) ws)
+
+-- a statement reads the numbers of its keyword alone
+nth_take : (zs : List ℤ) (n i : ℕ) → i < n → nth (take n zs) i ≡ nth zs i
+nth_take zs n i h = get_or-take n zs i (pos 0) h
+
+pub stated_take : (k : Keyword) (n : ℕ) (zs : List ℤ) → n ≡ count k → stated k (take n zs) ≡ stated k zs
+stated_take Room n zs e = simp (nth_take zs n 0 (omega arith), nth_take zs n 1 (omega arith), nth_take zs n 2 (omega arith), nth_take zs n 3 (omega arith), nth_take zs n 4 (omega arith)) refl
+stated_take Mark n zs e = simp (nth_take zs n 0 (omega arith), nth_take zs n 1 (omega arith), nth_take zs n 2 (omega arith)) refl
+stated_take Wipe n zs e = simp (nth_take zs n 0 (omega arith), nth_take zs n 1 (omega arith), nth_take zs n 2 (omega arith)) refl
+stated_take Sight n zs e =
+    simp (nth_take zs n 0 (omega arith), nth_take zs n 1 (omega arith), nth_take zs n 2 (omega arith), nth_take zs n 3 (omega arith), nth_take zs n 4 (omega arith), nth_take zs n 5 (omega arith)) refl

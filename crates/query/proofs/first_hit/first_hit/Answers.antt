@@ -1,11 +1,12 @@
-use Rattle.std.proofs.Common.{◌≡◌, length, Option, sym, refl, ap, ◌∙◌, subst, add-one, arith}
+use Rattle.std.proofs.Common.{◌≡◌, ◌+◌, length, Option, sym, refl, ap, ◌∙◌, subst, add-one, arith}
 use Rattle.scalar.specs.Single as Single
 use Rattle.scalar.proofs.Order.{le_right}
 use Rattle.query.specs.declared.ray.RayIntersection.{RayIntersection}
 use Rattle.query.specs.declared.first_hit.FirstHit.{FirstHit}
 use Rattle.query.specs.FirstHit.{hits_of, earlier, first_among, Earliest}
-use Rattle.query.proofs.Earliest.{first_is_earliest, hit_at_index, hit_of_some}
+use Rattle.query.proofs.Earliest.{first_is_earliest, earlier_missed, hit_at_index, hit_of_some}
 use Rattle.query.proofs.first_hit.first_hit.Goals as goal
+use Rattle.query.proofs.first_hit.first_hit.Goals.{then-is_some, else-is_some}
 
 pub loop-i-init : goal.loop-i-init
 unfolding first_among
@@ -20,10 +21,14 @@ loop-i-preserved g c =
     let i = c.loop-i.i in
     let found : c.cast_local_ray_and_get_normal-found.result ≡ hits i =
     c.cast_local_ray_and_get_normal-found.ensures ∙ ap cast c.index-things-i.is ∙ sym (hit_at_index cast things i c.index-things-i.result c.loop-i-test.true) in
-    c.earlier-best.ensures
-    ∙ ap (λ (o : Option RayIntersection). earlier c.loop-i.best i o) found
+    let step : earlier c.loop-i.best i c.cast_local_ray_and_get_normal-found.result ≡ first_among hits (i + 1) =
+    ap (λ (o : Option RayIntersection). earlier c.loop-i.best i o) found
     ∙ ap (λ (b : Option FirstHit). earlier b i (hits i)) c.loop-i.invariant
-    ∙ ap (first_among hits) (sym (add-one i))
+    ∙ ap (first_among hits) (sym (add-one i)) in
+    elim c.if-is_some.branch [
+      | then-is_some w ↦ w.best-is ∙ w.earlier-best.ensures ∙ step
+      | else-is_some w ↦ w.best-is ∙ sym (earlier_missed c.loop-i.best i c.cast_local_ray_and_get_normal-found.result (sym c.is_some.ensures ∙ w.if-is_some.false)) ∙ step
+    ]
 
 pub returns : goal.returns
 returns g c =
